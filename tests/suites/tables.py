@@ -1,12 +1,12 @@
-"""All cases of the tables of the program stair_tables, over racks in memory."""
+"""All cases of the tables of the program stair_fault_tables, over racks in memory."""
 from fixture import *
 
 SLOW = True
 NEEDS_PROGRAM = False
-PROGRAM = TOP / "crates" / "stair_tables" / "out" / "stair_tables"
+PROGRAM = TOP / "crates" / "stair_fault_tables" / "out" / "stair_fault_tables"
 # Whether the program is newer than its sources, by the script that builds programs.
-IS_CURRENT = 'top=$1 program=$2; . "$top/scripts/build"; find_crates stair_tables; find_cpu; is_current'
-# The parts, and how many calls or cases each has in the whole: crates/stair_tables/README.md works them out.
+IS_CURRENT = 'top=$1 program=$2; . "$top/scripts/build"; find_crates stair_fault_tables; find_cpu; is_current'
+# The parts, and how many calls or cases each has in the whole: crates/stair_fault_tables/README.md works them out.
 PARTS = [
     ("stops in a write of a block", "116 calls"),
     ("stops in a write of all blocks", "260 calls"),
@@ -29,7 +29,7 @@ PARTS = [
 
 class Tables(Case):
     def test_whole(self):
-        how = f"needs {PROGRAM.relative_to(TOP)}, by: bash -c 'top=$PWD; . scripts/build; build tables stair_tables'"
+        how = f"needs {PROGRAM.relative_to(TOP)}, by: bash -c 'top=$PWD; . scripts/build; build tables stair_fault_tables'"
         if not PROGRAM.exists():
             self.skipTest(how)
         if self.run_command(["bash", "-c", IS_CURRENT, "bash", TOP, PROGRAM]).status:

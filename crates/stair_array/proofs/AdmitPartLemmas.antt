@@ -7,14 +7,14 @@ use Rattle.stair_model.specs.Slots.{HasSlot, has_slot, slot_count}
 use Rattle.stair_model.specs.Sum.{sum_below}
 use Rattle.stair_model.proofs.CountLaws.{sum_below_add, sum_below_changed, sum_below_le}
 use Rattle.stair_model.proofs.SetLaws.{mark_small, unmarked}
-use Rattle.stair_rack.specs.Telling.{IsLater, Telling}
+use Rattle.stair_rack.specs.RackState.{IsLater, RackState}
 use Rattle.stair_super.specs.Superblock.{mark_in}
 use Rattle.stair_super.specs.declared.configuration.Configuration.{Configuration}
 use Rattle.stair_super.specs.declared.mark.Mark.TheVariants.{Down}
 use Rattle.stair_member.specs.Aims.{aimed, mark_for}
 use Rattle.stair_member.specs.Establishing.{Did, Establishes, HasBegun, NotYet}
 use Rattle.stair_member.specs.Membership.{IsHere, IsMembership, Membership, why_of}
-use Rattle.stair_member.specs.declared.aim.Aim.TheVariants.{Admit}
+use Rattle.stair_member.specs.declared.aim.EpochChange.TheVariants.{Admit}
 use Rattle.stair_member.specs.declared.fault.FenceFault.{FenceFault}
 use Rattle.stair_member.specs.declared.why.Why.{Why}
 use Rattle.stair_member.specs.declared.why.Why.TheVariants as why
@@ -31,7 +31,7 @@ weighs_two why.Rebuilding = omega arith
 weighs_two w = omega arith
 
 -- a slot that was admitted, and wasn't gone, takes part once the epoch stands
-pub admit_here : (slot : ℕ) (m last : Membership) (refusal : Option FenceFault) (old new : Telling)
+pub admit_here : (slot : ℕ) (m last : Membership) (refusal : Option FenceFault) (old new : RackState)
     → (e : Establishes (Admit slot) m last refusal old new) → refusal ≡ None → slot < m.array.geometry.n → ¬ HasSlot e.gone slot → IsHere last slot
 admit_here slot m last refusal old new e done within out = record {
   below = subst (λ (g : Geometry). slot < g.n) (sym e.geometry) within;
@@ -39,7 +39,7 @@ admit_here slot m last refusal old new e done within out = record {
 }
 
 -- An epoch that admits a slot, which isn't here, begun by a member that has the array and the reasons of m.
-module _ (slot : ℕ) (m start last : Membership) (refusal : Option FenceFault) (old mid new : Telling)
+module _ (slot : ℕ) (m start last : Membership) (refusal : Option FenceFault) (old mid new : RackState)
     (e : Establishes (Admit slot) start last refusal mid new) (same_array : start.array ≡ m.array) (same_whys : start.whys ≡ m.whys)
     (before : IsLater old mid) where
   pub admit_after : IsAfter mid new

@@ -7,13 +7,13 @@ use Rattle.stair_super.specs.declared.configuration.Configuration.{Configuration
 use Rattle.stair_member.specs.Establishing.{Joins}
 use Rattle.stair_member.specs.Membership.{Membership}
 use Rattle.stair_member.specs.Seeing.{Sees}
-use Rattle.stair_member.specs.declared.aim.Aim.TheVariants.{Admit}
+use Rattle.stair_member.specs.declared.aim.EpochChange.TheVariants.{Admit}
 use Rattle.stair_member.specs.declared.fault.AdmitFault.{AdmitFault}
 use Rattle.stair_member.specs.declared.fault.AdmitFault.TheVariants as admit
 use Rattle.stair_member.specs.declared.why.Why.{Why}
 use Rattle.stair_member.specs.declared.why.Why.TheVariants as why
-use Rattle.stair_session.specs.Courses.{Point}
-use Rattle.stair_session.specs.Rebuilding.{Rebuild}
+use Rattle.stair_invariant.specs.Effects.{Snapshot}
+use Rattle.stair_invariant.specs.Rebuilding.{Rebuild}
 use Rattle.stair_array.specs.Arrays.{IsUnderWay}
 use Rattle.stair_array.specs.MendingCalls.{AdmitsSlot, admitted_as}
 use Rattle.stair_array.specs.Mends.{joined_as}
@@ -31,7 +31,7 @@ under_seen j first second m seen sees rebuild under one is =
     )
 
 -- an admission that was refused
-pub admits_refused : (slot : ℕ) (x y : Point) (result : Result (Unit {0}) AdmitFault) (fault : AdmitFault) → IsErrAnd result (λ e. e ≡ fault)
+pub admits_refused : (slot : ℕ) (x y : Snapshot) (result : Result (Unit {0}) AdmitFault) (fault : AdmitFault) → IsErrAnd result (λ e. e ≡ fault)
     → Joins (Admit slot) slot x.member y.member (Err fault) x.told y.told → AdmitsSlot slot (admitted_as result) x y
 admits_refused slot x y (Ok done) fault is joins = absurd is
 admits_refused slot x y (Err e) fault same joins =

@@ -9,7 +9,7 @@ use Rattle.stair_rack.specs.History.{Attach, Happening, Read, Sectors, SlotCall,
 use Rattle.stair_rack.specs.Placed.{IsSyncOf, IsWriteOf, Writes}
 use Rattle.stair_rack.specs.Reading.{IsReadOf}
 use Rattle.stair_rack.specs.Stretch.{WasAnswered}
-use Rattle.stair_rack.specs.Telling.{Telling}
+use Rattle.stair_rack.specs.RackState.{RackState}
 use Rattle.stair_rack.specs.declared.rack.Got.TheVariants as got
 use Rattle.stair_rack.proofs.MomentLemmas.{moment_between, ran_join, ran_none, ran_weakened}
 use Rattle.stair_rack.proofs.StretchLemmas.{answered_allowed}
@@ -17,8 +17,8 @@ use Rattle.stair_member.specs.Editions.{Edition}
 use Rattle.stair_member.specs.Epochs.{ASync, AWrite, IsGoneCall, IsIssuing}
 use Rattle.stair_member.specs.Establishing.{Did, Establishes, Fences, HasBegun, NotYet, refusal_of}
 use Rattle.stair_member.specs.Membership.{IsMembership, Membership, why_of}
-use Rattle.stair_member.specs.declared.aim.Aim.{Aim}
-use Rattle.stair_member.specs.declared.aim.Aim.TheVariants.{Fence}
+use Rattle.stair_member.specs.declared.aim.EpochChange.{EpochChange}
+use Rattle.stair_member.specs.declared.aim.EpochChange.TheVariants.{Fence}
 use Rattle.stair_member.specs.declared.fault.FenceFault.{FenceFault}
 use Rattle.stair_member.specs.declared.why.Why.{Why}
 use Rattle.stair_member.specs.declared.why.Why.TheVariants as why
@@ -34,31 +34,31 @@ use Rattle.stair_journal.specs.declared.gates.Gates.{Gates}
 use Rattle.stair_journal.specs.declared.redo.Redo.{Redo}
 use Rattle.stair_journal.proofs.ToldLemmas.{answered_cases}
 use Rattle.stair_state.specs.Redoing.{Placing, Stage, next}
-use Rattle.stair_session.specs.Courses.{DoesStage, Fenced, FindsBody, FindsRedo, LeavesOut, NoneWas, Point, Redoes, Replays, point, stage_writes}
-use Rattle.stair_session.proofs.LeftOutLemmas.{start_geometry}
+use Rattle.stair_invariant.specs.Effects.{DoesStage, Fenced, FindsBody, FindsRedo, FencesGone, NoneWas, Snapshot, Redoes, Replays, snapshot, stage_writes}
+use Rattle.stair_invariant.proofs.LeftOutLemmas.{start_geometry}
 use Rattle.stair_array.specs.Promise.{AreAllLeftOut, IsAnsweredGone}
 use Rattle.stair_array.proofs.CourseLemmas.{body_after, found_part, gates_after, gates_part, opening_part, phase_after, redo_part, redo_stage_part}
 use Rattle.stair_array.proofs.GoneToLemmas.{IsAfter}
 use Rattle.stair_array.proofs.PartsLemmas.{IsPart, WhyStays, out_after}
 
 -- each slot that takes part at x and answers gone on the way to y doesn't take part at y
-abbrev pub IsLeftOut : Point → Point → Type 0
+abbrev pub IsLeftOut : Snapshot → Snapshot → Type 0
 IsLeftOut x y = AreAllLeftOut x.member y.member x.told y.told
 
 pub never_answered : (j : ℕ) (call : SlotCall) (h : List Happening) → ¬ WasAnswered j call h h
 never_answered j call h was = answered_allowed {allowed = no_call} (ran_none {allowed = no_call} h) was
 
 -- an honest rack was honest before
-pub honest_before : (old new : Telling) → IsAfter old new → IsTrue new.honest → IsTrue old.honest
+pub honest_before : (old new : RackState) → IsAfter old new → IsTrue new.honest → IsTrue old.honest
 honest_before old new after honest = subst IsTrue (sym after.later.honest) honest
 
 -- IN TURN
 
-gone_stays : (x y : Point) (j : ℕ) → WhyStays x y j → why_of x.member j ≡ why.Gone → why_of y.member j ≡ why.Gone
+gone_stays : (x y : Snapshot) (j : ℕ) → WhyStays x y j → why_of x.member j ≡ why.Gone → why_of y.member j ≡ why.Gone
 gone_stays x y j (WhyStays.Same same) is = same ∙ is
 gone_stays x y j (WhyStays.Went gone was) is = gone
 
-pub left_out_join : (a b : ℕ) (x y z : Point) → IsPart a x y → IsPart b y z → IsTrue z.told.honest → IsLeftOut x y → IsLeftOut y z → IsLeftOut x z
+pub left_out_join : (a b : ℕ) (x y z : Snapshot) → IsPart a x y → IsPart b y z → IsTrue z.told.honest → IsLeftOut x y → IsLeftOut y z → IsLeftOut x z
 left_out_join a b x y z first second honest sooner later j call here was gone =
     elim (answered_cases (moment_between {a = any_call} {b = any_call} (first.after.later.ran before) (second.after.later.ran honest)) was) [
       | inl early ↦ gone_stays y z j (second.whys j below) (sooner j call here early gone)
@@ -83,19 +83,19 @@ issuing_gone slots editions j c (AWrite e k answer on among formed small is) =
     subst (λ (d : SlotCall). IsAnsweredGone d → IsGoneCall d) (sym is) (λ gone. gone)
 issuing_gone slots editions j c (ASync answer on is) = subst (λ (d : SlotCall). IsAnsweredGone d → IsGoneCall d) (sym is) (λ gone. gone)
 
-pub epoch_left_out : (aim : Aim) (m start last : Membership) (refusal : Option FenceFault) (old new : Telling)
+pub epoch_left_out : (aim : EpochChange) (m start last : Membership) (refusal : Option FenceFault) (old new : RackState)
     → Establishes aim start last refusal old new → IsTrue new.honest → AreAllLeftOut m last old new
 epoch_left_out aim m start last refusal old new e honest j call here was gone =
     let issued = e.issued honest in
     let may = answered_allowed {allowed = IsIssuing issued.slots issued.editions} issued.ran was in
     e.were_gone.dropped j (e.were_gone.told honest j call was (issuing_gone issued.slots issued.editions j call may gone))
 
-pub fence_left_out : (leaving : Slots) (m last : Membership) (answer : Result Slots FenceFault) (old new : Telling)
+pub fence_left_out : (leaving : Slots) (m last : Membership) (answer : Result Slots FenceFault) (old new : RackState)
     → Fences leaving m last answer old new → IsTrue new.honest → AreAllLeftOut m last old new
 fence_left_out leaving m last answer old new e = epoch_left_out Fence m e.start last (refusal_of answer) old new e.establishes
 
 -- a slot that is left out is gone then
-fence_gone : (leaving : Slots) (m last : Membership) (answer : Result Slots FenceFault) (old new : Telling)
+fence_gone : (leaving : Slots) (m last : Membership) (answer : Result Slots FenceFault) (old new : RackState)
     → Fences leaving m last answer old new → (j : ℕ) → HasSlot leaving j → j < m.array.geometry.n → why_of last j ≡ why.Gone
 fence_gone leaving m last answer old new e j has below =
     elim (has_or_not e.establishes.gone j) [
@@ -112,26 +112,26 @@ fence_gone leaving m last answer old new e j has below =
 
 -- SLOTS THAT ARE LEFT OUT
 
-pub out_gone : (gone : Slots) (refusal : Option FenceFault) (x y : Point) → LeavesOut gone refusal x y → (j : ℕ) → HasSlot gone j
+pub out_gone : (gone : Slots) (refusal : Option FenceFault) (x y : Snapshot) → FencesGone gone refusal x y → (j : ℕ) → HasSlot gone j
     → j < x.member.array.geometry.n → why_of y.member j ≡ why.Gone
 out_gone gone refusal x y (NoneWas none same fine) j has below = absurd (none j has)
 out_gone gone refusal x y (Fenced i some answer fine e) j has below = fence_gone gone x.member y.member answer x.told y.told e j has below
 
-out_own : (gone : Slots) (refusal : Option FenceFault) (x y : Point) → LeavesOut gone refusal x y → IsTrue y.told.honest → IsLeftOut x y
+out_own : (gone : Slots) (refusal : Option FenceFault) (x y : Snapshot) → FencesGone gone refusal x y → IsTrue y.told.honest → IsLeftOut x y
 out_own gone refusal x y (NoneWas none same fine) honest =
-    subst (λ (p : Point). IsLeftOut x p) (sym same) (λ j call here was answered. absurd (never_answered j call x.told.history was))
+    subst (λ (p : Snapshot). IsLeftOut x p) (sym same) (λ j call here was answered. absurd (never_answered j call x.told.history was))
 out_own gone refusal x y (Fenced i some answer fine e) honest = fence_left_out gone x.member y.member answer x.told y.told e honest
 
 -- where all that answered gone since x are left out
-pub out_left_out : (gone : Slots) (refusal : Option FenceFault) (x y : Point) (mid : Telling) → IsAfter x.told mid
+pub out_left_out : (gone : Slots) (refusal : Option FenceFault) (x y : Snapshot) (mid : RackState) → IsAfter x.told mid
     → (IsTrue mid.honest → (j : ℕ) (call : SlotCall) → WasAnswered j call x.told.history mid.history → IsAnsweredGone call → HasSlot gone j)
-    → LeavesOut gone refusal (point x.member mid) y → IsTrue y.told.honest → IsLeftOut x y
+    → FencesGone gone refusal (snapshot x.member mid) y → IsTrue y.told.honest → IsLeftOut x y
 out_left_out gone refusal x y mid before told leaves honest j call here was answered =
-    let after = out_after gone refusal (point x.member mid) y leaves in
+    let after = out_after gone refusal (snapshot x.member mid) y leaves in
     let honest_mid = honest_before mid y.told after honest in
     elim (answered_cases (moment_between {a = any_call} {b = any_call} (before.later.ran honest_mid) (after.later.ran honest)) was) [
-      | inl early ↦ out_gone gone refusal (point x.member mid) y leaves j (told honest_mid j call early answered) here.below
-      | inr late ↦ out_own gone refusal (point x.member mid) y leaves honest j call here late answered
+      | inl early ↦ out_gone gone refusal (snapshot x.member mid) y leaves j (told honest_mid j call early answered) here.below
+      | inr late ↦ out_own gone refusal (snapshot x.member mid) y leaves honest j call here late answered
     ]
 
 -- PHASES
@@ -141,7 +141,7 @@ pub written_gone : (what : Writes) (to : ℕ → Type 0) (j : ℕ) (c : SlotCall
 written_gone what to j c (inl is) = subst (λ (d : SlotCall). IsAnsweredGone d → AnswersGone d) (sym is.is) (λ gone. gone)
 written_gone what to j c (inr is) = subst (λ (d : SlotCall). IsAnsweredGone d → AnswersGone d) (sym is.is) (λ gone. gone)
 
-pub stage_left_out : (what : Writes) (to : Slots) (refusal : Option FenceFault) (x y : Point) → DoesStage what to refusal x y
+pub stage_left_out : (what : Writes) (to : Slots) (refusal : Option FenceFault) (x y : Snapshot) → DoesStage what to refusal x y
     → IsTrue y.told.honest → IsLeftOut x y
 stage_left_out what to refusal x y does =
     out_left_out does.gone refusal x y does.mid (phase_after what to does.gone x.told does.mid does.phase) told does.leaves
@@ -179,17 +179,17 @@ reads_told slots sectors gone old new ran told j call was answered =
     told j is.0 (subst (λ (c : SlotCall). WasAnswered j c old new) is.1 was)
 
 -- one round of the gates
-gates_left_out : (gates : Gates) (live : Slots) (mid : Telling) (refusal : Option FenceFault) (x y : Point)
-    → ReadsGates x.member.array.geometry live gates x.told mid → LeavesOut gates.gone refusal (point x.member mid) y → IsTrue y.told.honest
+gates_left_out : (gates : Gates) (live : Slots) (mid : RackState) (refusal : Option FenceFault) (x y : Snapshot)
+    → ReadsGates x.member.array.geometry live gates x.told mid → FencesGone gates.gone refusal (snapshot x.member mid) y → IsTrue y.told.honest
     → IsLeftOut x y
 gates_left_out gates live mid refusal x y reads leaves =
     out_left_out gates.gone refusal x y mid (gates_after x.member.array.geometry live gates x.told mid reads)
     (λ honest. reads_told (HasSlot live) IsGateSector gates.gone x.told.history mid.history (reads.ran honest) (reads.told honest)) leaves
 
-pub found_left_out : (redo : Option Redo) (opened : Slots) (refusal : Option FenceFault) (x z : Point) → FindsRedo redo opened refusal x z
+pub found_left_out : (redo : Option Redo) (opened : Slots) (refusal : Option FenceFault) (x z : Snapshot) → FindsRedo redo opened refusal x z
     → IsMembership x.member → IsTrue z.told.honest → IsLeftOut x z
 found_left_out _ _ _ _ _ (FindsRedo.Found gates live mid x are reads none) rules honest =
-    gates_left_out gates live mid None x (point x.member mid) reads (NoneWas none refl refl) honest
+    gates_left_out gates live mid None x (snapshot x.member mid) reads (NoneWas none refl refl) honest
 found_left_out _ _ _ _ _ (FindsRedo.Again gates live mid redo opened refusal j x y z are reads gone leaves rest) rules honest =
     let first = gates_part gates live mid None x y are reads leaves rules in
     let second = found_part redo opened refusal y z rest first.rules in
@@ -199,7 +199,7 @@ found_left_out _ _ _ _ _ (FindsRedo.Again gates live mid redo opened refusal j x
 found_left_out _ _ _ _ _ (FindsRedo.Stops gates live mid redo opened fault x y are reads leaves) rules honest =
     gates_left_out gates live mid (Some fault) x y reads leaves honest
 
-pub body_left_out : (redo : Redo) (body : Body) (was into : Stripe) (refusal : Option FenceFault) (x y : Point)
+pub body_left_out : (redo : Redo) (body : Body) (was into : Stripe) (refusal : Option FenceFault) (x y : Snapshot)
     → FindsBody redo body was into refusal x y → IsTrue y.told.honest → IsLeftOut x y
 body_left_out redo body was into refusal x y found =
     out_left_out body.gone refusal x y found.mid
@@ -210,7 +210,7 @@ body_left_out redo body was into refusal x y found =
 
 -- A REDO
 
-pub redo_left_out : (g : Geometry) (redo : Redo) (stripe : Stripe) (stage : Stage) (refusal : Option FenceFault) (x z : Point)
+pub redo_left_out : (g : Geometry) (redo : Redo) (stripe : Stripe) (stage : Stage) (refusal : Option FenceFault) (x z : Snapshot)
     → Redoes g redo stripe stage refusal x z → IsMembership x.member → g ≡ x.member.array.geometry → IsRedo g redo → IsTrue z.told.honest
     → IsLeftOut x z
 redo_left_out g redo stripe _ _ _ _ (Redoes.Ends x) rules same formed honest =
@@ -225,7 +225,7 @@ redo_left_out g redo stripe _ _ _ _ (Redoes.Goes stage to refusal x y z not_done
     (stage_left_out (stage_writes g redo stripe stage) to None x y does (honest_before y.told z.told second.after honest))
     (redo_left_out g redo stripe (next stage) refusal y z more first.rules of_y formed honest)
 
-pub replay_left_out : (redo : Redo) (stripe : Stripe) (opened : Slots) (refusal : Option FenceFault) (x z : Point)
+pub replay_left_out : (redo : Redo) (stripe : Stripe) (opened : Slots) (refusal : Option FenceFault) (x z : Snapshot)
     → Replays redo stripe opened refusal x z → IsMembership x.member → IsRedo x.member.array.geometry redo → IsTrue z.told.honest
     → IsLeftOut x z
 replay_left_out redo stripe opened _ _ _ (Replays.Stops to fault x y are does) rules formed honest =

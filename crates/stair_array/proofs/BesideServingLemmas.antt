@@ -6,11 +6,11 @@ use Rattle.stair_rack.specs.Moments.{AtEveryMoment}
 use Rattle.stair_rack.proofs.MomentLemmas.{at_every_from}
 use Rattle.stair_state.specs.Blocks.{Codewords}
 use Rattle.stair_state.specs.State.{Content}
-use Rattle.stair_session.specs.Leading.{IsBesideArray}
-use Rattle.stair_session.specs.Returning.{Returning}
-use Rattle.stair_session.specs.Session.{ArrayState}
-use Rattle.stair_session.proofs.Serving.{IsServing, LeadsReads}
-use Rattle.stair_session.proofs.Mending.{LeadsBeside, beside_stands}
+use Rattle.stair_invariant.specs.Leading.{IsBesideArray}
+use Rattle.stair_invariant.specs.Returning.{Returning}
+use Rattle.stair_invariant.specs.Session.{ArrayState}
+use Rattle.stair_invariant.proofs.Serving.{IsServing, LeadsReads}
+use Rattle.stair_invariant.proofs.Mending.{LeadsBeside, beside_stands}
 use Rattle.stair_array.proofs.LeftServingLemmas.{StandsAt}
 
 pub beside_moments : (returning : Returning) → LeadsReads returning → LeadsBeside returning → (before : List Happening) (a : ArrayState)

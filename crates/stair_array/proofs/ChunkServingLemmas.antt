@@ -9,7 +9,7 @@ use Rattle.stair_rack.specs.History.{Happening, SlotCall, Sync}
 use Rattle.stair_rack.specs.Moments.{AtEveryMoment}
 use Rattle.stair_rack.specs.Offline.{IsAttached, WasPulled}
 use Rattle.stair_rack.specs.Placed.{IsGoneSlot, IsSlot, IsWriteOf, Writes}
-use Rattle.stair_rack.specs.Telling.{Telling}
+use Rattle.stair_rack.specs.RackState.{RackState}
 use Rattle.stair_rack.specs.declared.rack.Reply.{Reply}
 use Rattle.stair_rack.specs.declared.rack.Reply.TheVariants as reply
 use Rattle.stair_rack.proofs.MomentLemmas.{IsThis, calls_ran, ran_none, ran_weakened}
@@ -20,17 +20,17 @@ use Rattle.stair_stripes.proofs.PlacingLemmas.{cell_writes_is}
 use Rattle.stair_state.specs.Blocks.{Codewords}
 use Rattle.stair_state.specs.Redoing.{AttachesNone}
 use Rattle.stair_state.specs.State.{Content}
-use Rattle.stair_session.specs.Courses.{Point, point}
-use Rattle.stair_session.specs.Leading.{IsBesideArray}
-use Rattle.stair_session.specs.Opening.{opened_with}
-use Rattle.stair_session.specs.Rebuilding.{IsRebuiltTo}
-use Rattle.stair_session.specs.Returning.{Returning}
-use Rattle.stair_session.specs.Session.{IsRebuiltIn}
-use Rattle.stair_session.proofs.KnownLemmas.{attached_before}
-use Rattle.stair_session.proofs.Mending.{IsRebuiltWhole, LeadsBeside, rebuilt_wholly}
-use Rattle.stair_session.proofs.RebaseLemmas.{rebuilt_now}
-use Rattle.stair_session.proofs.RebuildingLemmas.{rebuilt_more}
-use Rattle.stair_session.proofs.Serving.{IsGoing, IsServing, LeadsReads}
+use Rattle.stair_invariant.specs.Effects.{Snapshot, snapshot}
+use Rattle.stair_invariant.specs.Leading.{IsBesideArray}
+use Rattle.stair_invariant.specs.Opening.{opened_with}
+use Rattle.stair_invariant.specs.Rebuilding.{IsRebuiltTo}
+use Rattle.stair_invariant.specs.Returning.{Returning}
+use Rattle.stair_invariant.specs.Session.{IsRebuiltIn}
+use Rattle.stair_invariant.proofs.KnownLemmas.{attached_before}
+use Rattle.stair_invariant.proofs.Mending.{IsRebuiltWhole, LeadsBeside, rebuilt_wholly}
+use Rattle.stair_invariant.proofs.RebaseLemmas.{rebuilt_now}
+use Rattle.stair_invariant.proofs.RebuildingLemmas.{rebuilt_more}
+use Rattle.stair_invariant.proofs.Serving.{IsGoing, IsServing, LeadsReads}
 use Rattle.stair_array.specs.Mends.{SyncsSlot, WritesChunk}
 use Rattle.stair_array.proofs.BesideServingLemmas.{beside_moments}
 use Rattle.stair_array.proofs.LeftServingLemmas.{StandsAt}
@@ -38,7 +38,7 @@ use Rattle.stair_array.proofs.SlotSyncLemmas.{alone, is_done, synced_alone}
 
 module _ (returning : Returning) (laws : LeadsReads returning) (besides : LeadsBeside returning) (before : List Happening) (m : Membership)
     (words : Codewords) (kept : Content) (j : ℕ)
-    (rebuilt : IsRebuiltIn m j) (old : Telling) (is : IsServing returning before (opened_with m) words kept old.history) (z : Point)
+    (rebuilt : IsRebuiltIn m j) (old : RackState) (is : IsServing returning before (opened_with m) words kept old.history) (z : Snapshot)
     (honest : IsTrue z.told.honest) where
   not_live : (i : ℕ) → i ≡ j → ¬ (why_of m i ≡ why.Here)
   not_live i at live =
@@ -47,7 +47,7 @@ module _ (returning : Returning) (laws : LeadsReads returning) (besides : LeadsB
 
   -- A CHUNK
 
-  module _ (t : ℕ) (into : Stripe) (answer : Reply) (wrote : WritesChunk j t into answer (point m old) z) where
+  module _ (t : ℕ) (into : Stripe) (answer : Reply) (wrote : WritesChunk j t into answer (snapshot m old) z) where
     abbrev what : Writes
     what = cell_writes m.array.geometry wrote.redo into
 
@@ -103,7 +103,7 @@ module _ (returning : Returning) (laws : LeadsReads returning) (besides : LeadsB
 
   -- A SYNC
 
-  module _ (answer : Reply) (syncs : SyncsSlot j answer (point m old) z) where
+  module _ (answer : Reply) (syncs : SyncsSlot j answer (snapshot m old) z) where
     sync_one : (i : ℕ) (c : SlotCall) → IsThis j (Sync answer) i c → IsBesideArray (opened_with m) i c
     sync_one i c this =
         subst (IsBesideArray (opened_with m) i) (sym this.1)

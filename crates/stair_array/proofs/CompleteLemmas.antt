@@ -34,38 +34,38 @@ use Rattle.stair_state.specs.State.{State}
 use Rattle.stair_state.specs.Surveyed.{NamesContent}
 use Rattle.stair_state.specs.Tolerance.{IsToleratedAlone}
 use Rattle.stair_state.proofs.StageLemmas.{written_in_range}
-use Rattle.stair_session.specs.Courses.{DoesStage, FindsBody, FindsRedo, Point, Redoes, Replays, point}
-use Rattle.stair_session.specs.Opening.{StaysArray, AreBetween, IsOpening, IsRecovering, IsToldBy, StandsWithin}
-use Rattle.stair_session.specs.Session.{IsLiveIn}
-use Rattle.stair_session.specs.UnderWay.{AreKept, IsUnderWay}
-use Rattle.stair_session.proofs.DoubtLemmas.{doubt_of}
-use Rattle.stair_session.proofs.FindsLemmas.{found_ran}
-use Rattle.stair_session.proofs.HonestLemmas.{found_honest, honest_first, left_honest, mid_honest, replay_honest}
-use Rattle.stair_session.proofs.OpenCourseLemmas.{gates_last, part_lasts}
-use Rattle.stair_session.proofs.ReadOnLemmas.{lasts, reads_beside_epochs, recovering_read}
-use Rattle.stair_session.proofs.RecoveryEndLemmas.{goes_on}
-use Rattle.stair_session.proofs.RedoMoments.{moments}
-use Rattle.stair_session.proofs.RedoingLemmas.{out_ran, over_here, phase, placed, redo_ran}
-use Rattle.stair_session.proofs.ReplayLemmas.{gates_beside, opens_gates}
-use Rattle.stair_session.proofs.StageBesideLemmas.{over_alone, phase_beside}
-use Rattle.stair_session.proofs.StandsWithinLemmas.{body_stands, closing_stands, finding_stands, replay_stands}
-use Rattle.stair_session.proofs.StaysArrayLemmas.{left_stays, stage_stays, stays_again}
+use Rattle.stair_invariant.specs.Effects.{DoesStage, FindsBody, FindsRedo, Snapshot, Redoes, Replays, snapshot}
+use Rattle.stair_invariant.specs.Opening.{StaysArray, AreBetween, IsOpening, IsRecovering, IsToldBy, StandsWithin}
+use Rattle.stair_invariant.specs.Session.{IsLiveIn}
+use Rattle.stair_invariant.specs.UnderWay.{AreKept, IsUnderWay}
+use Rattle.stair_invariant.proofs.DoubtLemmas.{doubt_of}
+use Rattle.stair_invariant.proofs.FindsLemmas.{found_ran}
+use Rattle.stair_invariant.proofs.HonestLemmas.{found_honest, honest_first, left_honest, mid_honest, replay_honest}
+use Rattle.stair_invariant.proofs.OpenCourseLemmas.{gates_last, part_lasts}
+use Rattle.stair_invariant.proofs.ReadOnLemmas.{lasts, reads_beside_epochs, recovering_read}
+use Rattle.stair_invariant.proofs.RecoveryEndLemmas.{goes_on}
+use Rattle.stair_invariant.proofs.RedoMoments.{moments}
+use Rattle.stair_invariant.proofs.RedoingLemmas.{out_ran, over_here, phase, placed, redo_ran}
+use Rattle.stair_invariant.proofs.ReplayLemmas.{gates_beside, opens_gates}
+use Rattle.stair_invariant.proofs.StageBesideLemmas.{over_alone, phase_beside}
+use Rattle.stair_invariant.proofs.StandsWithinLemmas.{body_stands, closing_stands, finding_stands, replay_stands}
+use Rattle.stair_invariant.proofs.StaysArrayLemmas.{left_stays, stage_stays, stays_again}
 use Rattle.stair_array.specs.Calls.{refused}
 use Rattle.stair_array.specs.Machine.{Refusal}
 use Rattle.stair_array.specs.Openings.{ClearsJournal, Recovers}
-use Rattle.stair_array.proofs.NeverFewLemmas.{IsCalmAt, calm_at, first_never, part_never}
+use Rattle.stair_array.proofs.NeverFewLemmas.{StaysWithinToleranceAt, calm_at, first_never, part_never}
 use Rattle.stair_array.proofs.RecoveredLemmas.{Calm, IsAt, IsFoundAt, IsReadAt, IsSurveyed, body_at, body_ran, calm_then, cleared_honest, cleared_ran, does_ran, fence_at, fence_ran, finding_at, honest_then, is_at, names_on, replayed_ran}
 
 module _ (s : State) (before : List Happening) (m : Membership) (encodings : Encodings s) (same : s.geometry ≡ m.array.geometry)
     (content : NamesContent s m.array) (a : Redoing) (start : List Happening) where
-  abbrev At : Stage → Point → Type 0
+  abbrev At : Stage → Snapshot → Type 0
   At stage p = IsAt s before m encodings a stage start p
 
-  moving : (h : List Happening) → IsCalmAt s.geometry before h → ¬ IsTrue (stopped h)
+  moving : (h : List Happening) → StaysWithinToleranceAt s.geometry before h → ¬ IsTrue (stopped h)
   moving h calm = goes_on s before h calm.tolerated
 
   -- marks are kept at the end of a part, by what is so at each moment of it
-  kept_by : (p y : Point) → Ran any_call before p.told.history → Ran any_call p.told.history y.told.history → IsCalmAt s.geometry before y.told.history
+  kept_by : (p y : Snapshot) → Ran any_call before p.told.history → Ran any_call p.told.history y.told.history → StaysWithinToleranceAt s.geometry before y.told.history
       → AtEveryMoment (StandsWithin s p.member.array p.told.history) p.told.history y.told.history
       → (alone : IsToleratedAlone s.geometry (image_now y.told.history)) → AreKept s.geometry p.member.array alone.current.array
   kept_by p y upto ran calm every alone =
@@ -75,11 +75,11 @@ module _ (s : State) (before : List Happening) (m : Membership) (encodings : Enc
 
   -- WHILE A REDO IS FOUND
 
-  finding_never : (stage : Stage) (redo : Option Redo) (opened : Slots) (refusal : Option FenceFault) (p z : Point) → FindsRedo redo opened refusal p z
-      → (whys : List Why) → refusal ≡ Some (TooFew whys) → At stage p → IsTrue z.told.honest → IsCalmAt s.geometry before z.told.history → ⊥
+  finding_never : (stage : Stage) (redo : Option Redo) (opened : Slots) (refusal : Option FenceFault) (p z : Snapshot) → FindsRedo redo opened refusal p z
+      → (whys : List Why) → refusal ≡ Some (TooFew whys) → At stage p → IsTrue z.told.honest → StaysWithinToleranceAt s.geometry before z.told.history → ⊥
   finding_never stage _ _ _ _ _ (FindsRedo.Found gates live mid p are reads none) whys fine is honest calm = absurd (cc)
   finding_never stage _ _ _ _ _ (FindsRedo.Stops gates live mid redo opened fault p y are reads leaves) whys fine is honest calm =
-      let now = honest_then mid y.told (left_honest gates.gone (Some fault) (point p.member mid) y leaves) honest in
+      let now = honest_then mid y.told (left_honest gates.gone (Some fault) (snapshot p.member mid) y leaves) honest in
       let stops : FindsRedo redo opened (Some fault) p y = FindsRedo.Stops gates live mid redo opened fault p y are reads leaves in
       let few : fault ≡ TooFew whys = cc in
       part_never s before a stage start p y mid gates.gone fault
@@ -90,9 +90,9 @@ module _ (s : State) (before : List Happening) (m : Membership) (encodings : Enc
       (λ j on has. (reads.gone j has).shut now before (is.opening.amid.held j (record { below = on.below; why = inl on.why }))) honest calm whys few
   finding_never stage _ _ _ _ _ (FindsRedo.Again gates live mid redo opened refusal i p y z are reads gone leaves rest) whys fine is honest calm =
       let after : IsTrue y.told.honest = honest_then y.told z.told (found_honest redo opened refusal y z rest) honest in
-      let now : IsTrue mid.honest = honest_then mid y.told (left_honest gates.gone None (point p.member mid) y leaves) after in
+      let now : IsTrue mid.honest = honest_then mid y.told (left_honest gates.gone None (snapshot p.member mid) y leaves) after in
       let reading : Ran (IsReadOf (HasSlot live) IsGateSector) p.told.history mid.history = reads.ran now in
-      let leaving : Ran any_call mid.history y.told.history = out_ran gates.gone None (point p.member mid) y leaves after in
+      let leaving : Ran any_call mid.history y.told.history = out_ran gates.gone None (snapshot p.member mid) y leaves after in
       let later : Ran any_call y.told.history z.told.history = found_ran redo opened refusal y z rest honest in
       let to_mid : Ran any_call before mid.history =
       ran_join {allowed = any_call} is.opening.amid.ran (ran_any {allowed = IsReadOf (HasSlot live) IsGateSector} reading) in
@@ -105,10 +105,10 @@ module _ (s : State) (before : List Happening) (m : Membership) (encodings : Enc
       recovering_read a stage encodings.old encodings.new start p.member {slots = HasSlot live} {sectors = IsGateSector}
       p.told.history mid.history reading from_p is.recovering in
       let then =
-      lasts a stage encodings.old encodings.new start gates.gone (point p.member mid) y at_mid
+      lasts a stage encodings.old encodings.new start gates.gone (snapshot p.member mid) y at_mid
       (λ j has. record { below = (below j has).below; why = inl (below j has).why }) after
       (each_after none_y (moment_between {a = any_call} {b = any_call} to_mid leaving)) going leaves in
-      let left = left_stays gates.gone None (point p.member mid) y leaves is.stays.rules in
+      let left = left_stays gates.gone None (snapshot p.member mid) y leaves is.stays.rules in
       finding_never stage redo opened refusal y z rest whys fine
       (is_at s before m encodings same content a stage start y then.recovering
       (part_lasts before gates.gone p y mid
@@ -116,11 +116,11 @@ module _ (s : State) (before : List Happening) (m : Membership) (encodings : Enc
       (λ j has. (below j has).below) after none_y going is.opening) (stays_again m p.member y.member is.stays left)) honest calm
 
   -- while its body is read
-  body_never : (stage : Stage) (redo : Redo) (body : Body) (was into : Stripe) (fault : FenceFault) (p y : Point)
+  body_never : (stage : Stage) (redo : Redo) (body : Body) (was into : Stripe) (fault : FenceFault) (p y : Snapshot)
       → FindsBody redo body was into (Some fault) p y → (whys : List Why) → At stage p → IsTrue y.told.honest
-      → IsCalmAt s.geometry before y.told.history → ¬ (fault ≡ TooFew whys)
+      → StaysWithinToleranceAt s.geometry before y.told.history → ¬ (fault ≡ TooFew whys)
   body_never stage redo body was into fault p y f whys is honest calm =
-      let now = honest_then f.mid y.told (left_honest body.gone (Some fault) (point p.member f.mid) y f.leaves) honest in
+      let now = honest_then f.mid y.told (left_honest body.gone (Some fault) (snapshot p.member f.mid) y f.leaves) honest in
       part_never s before a stage start p y f.mid body.gone fault
       (reads_beside_epochs p.member {slots = HasSlot f.live} {sectors = IsBodySector p.member.array.geometry redo} p.told.history f.mid.history
       (f.reads.ran now)) f.leaves is.recovering.way is.opening is.geometry
@@ -131,7 +131,7 @@ module _ (s : State) (before : List Happening) (m : Membership) (encodings : Enc
   -- PHASES
 
   -- a slot in use that was gone to a phase is offline
-  module _ (what : Writes) (to : Slots) (fault : FenceFault) (p y : Point) (does : DoesStage what to (Some fault) p y) (stage : Stage)
+  module _ (what : Writes) (to : Slots) (fault : FenceFault) (p y : Snapshot) (does : DoesStage what to (Some fault) p y) (stage : Stage)
       (way : IsUnderWay a stage start p.member p.told.history) (opening : IsOpening before p)
       (small : (j k : ℕ) (bytes : List ℕ) → what j k ≡ Some bytes → k < sectors_needed a.geometry) (honest : IsTrue y.told.honest) where
     phase_placed : Placed what (HasSlot to) (HasSlot does.gone) p.told.history does.mid.history
@@ -143,14 +143,14 @@ module _ (s : State) (before : List Happening) (m : Membership) (encodings : Enc
         (λ attached k bytes written. way.large j (on, attached) k (small j k bytes written))
 
   -- gates of live slots
-  gates_never : (stage : Stage) (gate : List ℕ) (to : Slots) (fault : FenceFault) (p y : Point) → ((j : ℕ) → HasSlot to j → IsLiveIn p.member j)
+  gates_never : (stage : Stage) (gate : List ℕ) (to : Slots) (fault : FenceFault) (p y : Snapshot) → ((j : ℕ) → HasSlot to j → IsLiveIn p.member j)
       → DoesStage (gate_writes gate) to (Some fault) p y → (whys : List Why) → At stage p → IsTrue y.told.honest
-      → IsCalmAt s.geometry before y.told.history
+      → StaysWithinToleranceAt s.geometry before y.told.history
       → AtEveryMoment (StandsWithin s p.member.array p.told.history) p.told.history y.told.history → ¬ (fault ≡ TooFew whys)
   gates_never stage gate to fault p y live does whys is honest calm every =
       let phase = does.phase.placed (mid_honest (gate_writes gate) to (Some fault) p y does honest) in
       let ran =
-      ran_join {allowed = any_call} (phase_ran phase) (out_ran does.gone (Some fault) (point p.member does.mid) y does.leaves honest) in
+      ran_join {allowed = any_call} (phase_ran phase) (out_ran does.gone (Some fault) (snapshot p.member does.mid) y does.leaves honest) in
       part_never s before a stage start p y does.mid does.gone fault
       (gates_beside p.member gate to (HasSlot does.gone) p.told.history does.mid.history live phase) does.leaves is.recovering.way is.opening
       is.geometry (kept_by p y is.opening.amid.ran ran calm every)
@@ -160,16 +160,16 @@ module _ (s : State) (before : List Happening) (m : Membership) (encodings : Enc
   -- a redo
   module _ (redoing : IsRedoing a) (stripe : Stripe) (cells : (i c : ℕ) → HasCell a.redo.cells i c → cell stripe i c ≡ cell (a.new a.redo.stripe) i c)
       (words : AreBetween encodings.old encodings.new a.old a.new) where
-    pub redo_never : (stage : Stage) (refusal : Option FenceFault) (p z : Point) → Redoes a.geometry a.redo stripe stage refusal p z → (whys : List Why)
+    pub redo_never : (stage : Stage) (refusal : Option FenceFault) (p z : Snapshot) → Redoes a.geometry a.redo stripe stage refusal p z → (whys : List Why)
         → refusal ≡ Some (TooFew whys) → IsUnderWay a stage start p.member p.told.history → IsOpening before p → StaysArray m p.member
-        → IsTrue z.told.honest → IsCalmAt s.geometry before z.told.history → ⊥
+        → IsTrue z.told.honest → StaysWithinToleranceAt s.geometry before z.told.history → ⊥
     redo_never _ _ _ _ (Redoes.Ends p) whys fine way opening stays honest calm = absurd (cc)
     redo_never _ _ _ _ (Redoes.Stops stage to fault p y not_done over does) whys fine way opening stays honest calm =
         let stops : Redoes a.geometry a.redo stripe stage (Some fault) p y = Redoes.Stops stage to fault p y not_done over does in
         let few : fault ≡ TooFew whys = cc in
         let phase = placed a redoing stripe cells start stage to (Some fault) p y over does honest in
         let ran =
-        ran_join {allowed = any_call} (phase_ran phase) (out_ran does.gone (Some fault) (point p.member does.mid) y does.leaves honest) in
+        ran_join {allowed = any_call} (phase_ran phase) (out_ran does.gone (Some fault) (snapshot p.member does.mid) y does.leaves honest) in
         let here : s.geometry ≡ p.member.array.geometry = same ∙ sym stays.geometry in
         let of_state : a.geometry ≡ s.geometry = way.geometry ∙ sym here in
         let doubt = doubt_of s encodings a p.member of_state (names_on s before m encodings same content p.member stays) words in
@@ -191,7 +191,7 @@ module _ (s : State) (before : List Happening) (m : Membership) (encodings : Enc
         let later : Ran any_call y.told.history z.told.history = redo_ran a redoing stripe cells start (next stage) refusal y z more honest in
         let what = placed a redoing stripe cells start stage to None p y over does now in
         let ran =
-        ran_join {allowed = any_call} (phase_ran what) (out_ran does.gone None (point p.member does.mid) y does.leaves now) in
+        ran_join {allowed = any_call} (phase_ran what) (out_ran does.gone None (snapshot p.member does.mid) y does.leaves now) in
         let none_y =
         each_before calm.none (moment_between {a = any_call} {b = any_call} (ran_join {allowed = any_call} opening.amid.ran ran) later) in
         let going : ¬ IsTrue (stopped y.told.history) = λ stops. moving z.told.history calm (stopped_on {allowed = any_call} later stops) in
@@ -205,11 +205,11 @@ module _ (s : State) (before : List Happening) (m : Membership) (encodings : Enc
         (stays_again m p.member y.member stays first) honest calm
 
   -- done again
-  replay_never : (stage : Stage) (redo : Redo) (opened : Slots) (stripe : Stripe) (refusal : Option FenceFault) (p z : Point)
+  replay_never : (stage : Stage) (redo : Redo) (opened : Slots) (stripe : Stripe) (refusal : Option FenceFault) (p z : Snapshot)
       → Replays a.redo stripe opened refusal p z → (whys : List Why) → refusal ≡ Some (TooFew whys) → At stage p
       → IsToldBy (Some redo) opened a stage start p.member p.told.history → IsRedoing a → ((stage ≡ Uncommitted) ⊎ (stage ≡ Placing))
       → ((i c : ℕ) → HasCell a.redo.cells i c → cell stripe i c ≡ cell (a.new a.redo.stripe) i c) → IsTrue z.told.honest
-      → IsCalmAt s.geometry before z.told.history → ⊥
+      → StaysWithinToleranceAt s.geometry before z.told.history → ⊥
   replay_never stage redo opened stripe _ _ _ (Replays.Stops to fault p y are does) whys fine is told redoing at_stage cells honest calm =
       let few : fault ≡ TooFew whys = cc in
       gates_never stage (open_gate p.member.array.geometry a.redo) to fault p y (λ j has. ((are.are j).0 has).0) does whys is honest calm
@@ -225,7 +225,7 @@ module _ (s : State) (before : List Happening) (m : Membership) (encodings : Enc
       let later : Ran any_call y.told.history z.told.history = redo_ran a redoing stripe cells start Placing refusal y z run honest in
       let ran =
       ran_join {allowed = any_call} (phase_ran (opens.phase.placed (mid_honest (gate_writes (open_gate a.geometry a.redo)) to None p y opens now)))
-      (out_ran opens.gone None (point p.member opens.mid) y opens.leaves now) in
+      (out_ran opens.gone None (snapshot p.member opens.mid) y opens.leaves now) in
       let none_y =
       each_before calm.none (moment_between {a = any_call} {b = any_call} (ran_join {allowed = any_call} is.opening.amid.ran ran) later) in
       let going : ¬ IsTrue (stopped y.told.history) = λ stops. moving z.told.history calm (stopped_on {allowed = any_call} later stops) in
@@ -248,7 +248,7 @@ few_of EpochsSpent whys same = absurd (cc)
 
 module _ (s : State) (before : List Happening) (m : Membership) (encodings : Encodings s) (same : s.geometry ≡ m.array.geometry)
     (content : NamesContent s m.array) (a : Redoing) (start : List Happening) where
-  clears_never : (redo : Option Redo) (opened : Slots) (answer : Result Geometry Refusal) (q w : Point)
+  clears_never : (redo : Option Redo) (opened : Slots) (answer : Result Geometry Refusal) (q w : Snapshot)
       → ClearsJournal redo opened answer q w → (whys : List Why) → answer ≡ failed (refused (TooFew whys))
       → IsFoundAt s before m encodings same content a start redo opened q → IsTrue w.told.honest → Calm s before w.told.history → ⊥
   clears_never _ _ _ _ _ (ClearsJournal.Closes opened live None q w are does) whys fine is honest calm = absurd (cc)
@@ -279,7 +279,7 @@ module _ (s : State) (before : List Happening) (m : Membership) (encodings : Enc
 
 -- of an array that a survey found
 module _ (s : State) (before : List Happening) where
-  pub recovers_never : (answer : Result Geometry Refusal) (x w : Point) → Recovers answer x w → (whys : List Why)
+  pub recovers_never : (answer : Result Geometry Refusal) (x w : Snapshot) → Recovers answer x w → (whys : List Why)
       → answer ≡ failed (refused (TooFew whys)) → IsSurveyed s before x → IsTrue w.told.honest → Calm s before w.told.history → ⊥
   recovers_never _ _ _ (Recovers.NoEpoch fault x w fences) whys fine is honest calm =
       let ran = fence_ran x.member w.member (Err fault) x.told w.told fences honest in

@@ -25,7 +25,7 @@ use Rattle.stair_rack.proofs.TidyLemmas.{history_on}
 use Rattle.stair_super.specs.Superblock.{Superblock}
 use Rattle.stair_member.specs.Current.{IsCurrent, IsFailed, IsLive}
 use Rattle.stair_member.specs.Membership.{why_of}
-use Rattle.stair_member.specs.declared.aim.Aim.TheVariants.{Fence}
+use Rattle.stair_member.specs.declared.aim.EpochChange.TheVariants.{Fence}
 use Rattle.stair_member.specs.declared.fault.FenceFault.{FenceFault}
 use Rattle.stair_member.specs.declared.fault.FenceFault.TheVariants.{TooFew}
 use Rattle.stair_member.specs.declared.why.Why.{Why}
@@ -38,14 +38,14 @@ use Rattle.stair_state.specs.State.{Content}
 use Rattle.stair_state.specs.Tolerance.{IsWithinTolerance}
 use Rattle.stair_state.proofs.RedoPhaseLemmas.{large_some}
 use Rattle.stair_state.proofs.ToleranceLemmas.{exactly_covered}
-use Rattle.stair_session.specs.Courses.{Fenced, LeavesOut, NoneWas, Point, point}
-use Rattle.stair_session.specs.Rebuilding.{Rebuild}
-use Rattle.stair_session.specs.Returning.{Returning}
-use Rattle.stair_session.specs.Session.{IsLiveIn}
-use Rattle.stair_session.proofs.FindsLemmas.{damaged_content, stays_damaged}
-use Rattle.stair_session.proofs.BesideLemmas.{medium_on_it}
-use Rattle.stair_session.proofs.OpenWithLemmas.{issued_apart}
-use Rattle.stair_session.proofs.Serving.{IsGoing, IsServing, StandsIn, any_read, tolerated_now, LeadsReads, IsCalmTo}
+use Rattle.stair_invariant.specs.Effects.{Fenced, FencesGone, NoneWas, Snapshot, snapshot}
+use Rattle.stair_invariant.specs.Rebuilding.{Rebuild}
+use Rattle.stair_invariant.specs.Returning.{Returning}
+use Rattle.stair_invariant.specs.Session.{IsLiveIn}
+use Rattle.stair_invariant.proofs.FindsLemmas.{damaged_content, stays_damaged}
+use Rattle.stair_invariant.proofs.BesideLemmas.{medium_on_it}
+use Rattle.stair_invariant.proofs.OpenWithLemmas.{issued_apart}
+use Rattle.stair_invariant.proofs.Serving.{IsGoing, IsServing, StandsIn, any_read, tolerated_now, LeadsReads, StaysWithinToleranceTo}
 use Rattle.stair_array.proofs.EnoughLemmas.{never_few}
 use Rattle.stair_array.proofs.LeftServingLemmas.{StandsAt, stands_live}
 use Rattle.stair_array.proofs.ReadPartLemmas.{HasLoaded, all_ran, array_with, calm_going_mid, gone_off, honest_mid, live_of, loading_moments, ran_gathering, ran_leaving, ran_reading, serves_first, serves_mid, to_mid}
@@ -63,10 +63,10 @@ read_apart j (Read k answer) may = (λ on. tt, tt)
 read_apart j (Write k bytes answer) may = absurd may
 read_apart j (Sync answer) may = absurd may
 
-left_apart : (gone : Slots) (refusal : Option FenceFault) (x y : Point) → LeavesOut gone refusal x y → IsTrue y.told.honest
+left_apart : (gone : Slots) (refusal : Option FenceFault) (x y : Snapshot) → FencesGone gone refusal x y → IsTrue y.told.honest
     → Ran untouching x.told.history y.told.history
 left_apart gone refusal x y (NoneWas none same fine) honest =
-    subst (λ (p : Point). Ran untouching x.told.history p.told.history) (sym same) (ran_none {allowed = untouching} x.told.history)
+    subst (λ (p : Snapshot). Ran untouching x.told.history p.told.history) (sym same) (ran_none {allowed = untouching} x.told.history)
 left_apart gone refusal x y (Fenced j has answer fine e) honest =
     issued_apart Fence e.establishes.gone e.start y.member x.told.history y.told.history (e.establishes.issued honest) every_slot
 
@@ -81,11 +81,11 @@ writes_apart j i (Sync answer) may = tt
 -- WHAT A STRIPE WAS GATHERED FOR
 
 module _ (returning : Returning) (laws : LeadsReads returning) (before : List Happening) (rebuild : Option Rebuild) (stopped_by : Option FenceFault)
-    (words : Codewords) (held : Content) (x : Point)
+    (words : Codewords) (held : Content) (x : Snapshot)
     (is : IsServing returning before (array_with rebuild stopped_by x) words held x.told.history)
-    (t : ℕ) {wanted : ℕ → ℕ → Type 0} (gathered : Gathered) (read : Stripe) (refusal : Option FenceFault) (z : Point)
+    (t : ℕ) {wanted : ℕ → ℕ → Type 0} (gathered : Gathered) (read : Stripe) (refusal : Option FenceFault) (z : Snapshot)
     (l : HasLoaded t wanted gathered read refusal x z) (honest : IsTrue z.told.honest)
-    (calm : IsCalmTo returning x.member.array.geometry before z.told.history) where
+    (calm : StaysWithinToleranceTo returning x.member.array.geometry before z.told.history) where
   abbrev g : Geometry
   g = x.member.array.geometry
 
@@ -98,7 +98,7 @@ module _ (returning : Returning) (laws : LeadsReads returning) (before : List Ha
   ran_out : Ran any_call l.mid.history z.told.history
   ran_out = ran_leaving returning laws before rebuild stopped_by words held x is t gathered read refusal z l honest
 
-  calm_mid : IsCalmTo returning x.member.array.geometry before l.mid.history
+  calm_mid : StaysWithinToleranceTo returning x.member.array.geometry before l.mid.history
   calm_mid = to_mid returning laws before rebuild stopped_by words held x is t gathered read refusal z l honest z.told.history ran_out calm
 
   on_mid : IsGoing returning x.member.array.geometry before l.mid.history
@@ -133,7 +133,7 @@ module _ (returning : Returning) (laws : LeadsReads returning) (before : List Ha
   pub never_too_few : (whys : List Why) → ¬ (refusal ≡ Some (TooFew whys))
   never_too_few whys at = by l.leaves
     where
-      by : LeavesOut gathered.gone refusal (point x.member l.mid) z → ⊥
+      by : FencesGone gathered.gone refusal (snapshot x.member l.mid) z → ⊥
       by (NoneWas none same fine) = let never : None ≡ Some (TooFew whys) = sym fine ∙ at in absurd (cc)
       by (Fenced j has (Ok fallen) fine does) = let never : None ≡ Some (TooFew whys) = sym fine ∙ at in absurd (cc)
       by (Fenced j has (Err fault) fine does) =
@@ -147,7 +147,7 @@ module _ (returning : Returning) (laws : LeadsReads returning) (before : List Ha
   -- WHAT IS ERASED IS COVERED
 
   apart_out : Ran untouching l.mid.history z.told.history
-  apart_out = left_apart gathered.gone refusal (point x.member l.mid) z l.leaves honest
+  apart_out = left_apart gathered.gone refusal (snapshot x.member l.mid) z l.leaves honest
 
   -- a cell that was read as bad on a live slot is damaged, or its slot is offline
   module _ (i j : ℕ) (on : IsLiveIn x.member j) (stripe : t < x.member.array.geometry.stripes) (row : i < x.member.array.geometry.r)

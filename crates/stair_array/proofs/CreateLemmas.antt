@@ -27,7 +27,7 @@ use Rattle.stair_member.specs.Superblocks.{HasSuper, HoldsSuper}
 use Rattle.stair_array.specs.Created.{IsNewArray, IsNewDevice, IsNewSlot, NoneComesBack, created_sector}
 use Rattle.stair_array.specs.Created as created
 use Rattle.stair_array.specs.Look.{IsLook, IsTaken}
-use Rattle.stair_rack.specs.Telling.{IsLater, IsReading, Telling}
+use Rattle.stair_rack.specs.RackState.{IsLater, IsReading, RackState}
 use Rattle.stair_array.specs.Looking.{Finding, WasGone, WasSmall, Holds, AllPassed, HadSectors, IsFound, IsGoneInWriting, IsNotCreated, IsRefusedFor, IsUnwritten, cells_at}
 use Rattle.stair_array.specs.Making.{AreMade, IsBehind, IsCreating, IsLaidOut, IsMaking, IsNoPlaceWrite, IsPlace, IsSlotOf, IsStoppedBy, IsWriteWithin, NoPlaceWritten, SuperblocksCameLast, CameAfter, WritesInTurn, WritesNoPlace, WritesWithin, WrittenWithin}
 use Rattle.stair_state.specs.Represents.{AreSteady, IsLargeEnough}
@@ -41,7 +41,7 @@ use Rattle.stair_array.proofs.PulledLemmas.{IsSameOrOther, ReturnsOnly, SameMedi
 -- WHY THERE IS NO ARRAY
 
 -- the writing stopped at a slot that was taken
-pub gone_in_writing : (g : Geometry) (fault : CreateFault) (old mid now next : Telling) → IsLater mid now → IsLater now next
+pub gone_in_writing : (g : Geometry) (fault : CreateFault) (old mid now next : RackState) → IsLater mid now → IsLater now next
     → (IsTrue next.honest → (j : ℕ) → j < g.n → IsTaken g j old.history now.history) → IsStoppedBy g fault now next → IsGoneInWriting g fault old mid next
 gone_in_writing g (Gone slot) old mid now next first second taken stop = (
   stop.0,
@@ -51,7 +51,7 @@ gone_in_writing g (Gone slot) old mid now next first second taken stop = (
 gone_in_writing g (SmallDevice slot has needs) old mid now next first second taken stop = absurd stop
 gone_in_writing g (AlreadyArray slot) old mid now next first second taken stop = absurd stop
 
-pub given_up : (g : Geometry) (fault : CreateFault) (old mid now next : Telling) → AllPassed g old mid → IsLater mid now → IsLater now next → IsLater mid next
+pub given_up : (g : Geometry) (fault : CreateFault) (old mid now next : RackState) → AllPassed g old mid → IsLater mid now → IsLater now next → IsLater mid next
     → (IsTrue next.honest → (j : ℕ) → j < g.n → IsTaken g j old.history now.history) → IsStoppedBy g fault now next → IsNotCreated g fault old next
 given_up g fault old mid now next passed first second whole taken stop =
     inr (record {
@@ -109,7 +109,7 @@ size_kept before j old new ran online =
     subst (λ x. (slot_state x j).size ≡ (slot_state old j).size) (sym online.is)
     (size_stays before j online.more old (subst (λ m. Runs any_call m old) same ran.runs) online.each)
 
-module _ (g : Geometry) (old new : Telling) (is : IsTrue new.honest) (ran : Ran any_call old.history new.history)
+module _ (g : Geometry) (old new : RackState) (is : IsTrue new.honest) (ran : Ran any_call old.history new.history)
     (online : AtEveryMoment (λ h. (j : ℕ) → j < g.n → ¬ IsOffline old.history h j) old.history new.history)
     (large : (j : ℕ) → j < g.n → IsLargeEnough g (slot_state old.history j).size)
     (bare : (h : List Happening) (j : ℕ) → IsMoment old.history h new.history → NothingWritten old.history h → j < 32 → ¬ HasSuper (cells_at h j)) where
@@ -156,7 +156,7 @@ module _ (g : Geometry) (old new : Telling) (is : IsTrue new.honest) (ran : Ran 
       let has = refused.1 in
       never_read j has.place (cell has.place) has.super below has.place_in unwritten (found.0 has.place has.place_in) has.holds
 
-  never_gone : (fault : CreateFault) (mid : Telling) → ¬ IsGoneInWriting g fault old mid new
+  never_gone : (fault : CreateFault) (mid : RackState) → ¬ IsGoneInWriting g fault old mid new
   never_gone (Gone slot) mid gone =
       at_last {P = λ h. (j : ℕ) → j < g.n → ¬ IsOffline old.history h j} online slot gone.0 (gone.2 is)
   never_gone (SmallDevice slot has needs) mid gone = gone

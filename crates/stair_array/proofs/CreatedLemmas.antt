@@ -29,7 +29,7 @@ use Rattle.stair_state.specs.Blocks.{AreEncodingsOf, zero_block, zero_blocks}
 use Rattle.stair_array.specs.Created.{IsNewDevice, IsNewSlot, Kept, Other, created_sector, first_configuration, first_super}
 use Rattle.stair_state.specs.State.{first_seats}
 use Rattle.stair_state.proofs.BlockLemmas.{encodes_blocks}
-use Rattle.stair_session.proofs.NewSessionLemmas.{among_first, length_first, past_first}
+use Rattle.stair_invariant.proofs.NewSessionLemmas.{among_first, length_first, past_first}
 
 -- ZEROS
 

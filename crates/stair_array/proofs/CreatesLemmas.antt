@@ -5,7 +5,7 @@ use Rattle.stair_model.specs.Geometry.{Geometry, IsWithinLimits}
 use Rattle.stair_rack.specs.Answers.{IsHistory, Ran}
 use Rattle.stair_rack.specs.History.{Happening}
 use Rattle.stair_array.specs.Creates.{Creates, IsMade}
-use Rattle.stair_rack.specs.Telling.{IsLater, Telling}
+use Rattle.stair_rack.specs.RackState.{IsLater, RackState}
 use Rattle.stair_array.specs.Looking.{IsNotCreated, WasLookedAt}
 use Rattle.stair_array.specs.Making.{IsCreating, PlacesInTurn, SuperblocksCameLast}
 use Rattle.stair_array.specs.declared.fault.CreateFault.{CreateFault}
@@ -13,14 +13,14 @@ use Rattle.stair_array.proofs.CreateLemmas.{IsFinished, created_spares, created_
 use Rattle.stair_array.proofs.NewArrayLemmas.{media_of_array, new_consistent, new_represents}
 
 -- each write is one of a new array, on an honest rack
-abbrev pub AreNew : Geometry → Telling → Telling → Type 0
+abbrev pub AreNew : Geometry → RackState → RackState → Type 0
 AreNew g old new = IsTrue new.honest → Ran (IsCreating g) old.history new.history
 
 -- superblocks came last, and those of a slot in turn
-abbrev pub AreOrdered : Geometry → Telling → Telling → Type 0
+abbrev pub AreOrdered : Geometry → RackState → RackState → Type 0
 AreOrdered g old new = IsTrue new.honest → SuperblocksCameLast g old.history new.history × PlacesInTurn g old.history new.history
 
-pub not_created : (g : Geometry) (fault : CreateFault) (old new : Telling) → (IsTrue new.honest → IsHistory old.history) → IsNotCreated g fault old new
+pub not_created : (g : Geometry) (fault : CreateFault) (old new : RackState) → (IsTrue new.honest → IsHistory old.history) → IsNotCreated g fault old new
     → IsLater old new → AreNew g old new → AreOrdered g old new → Creates g (Err fault) old new
 not_created g fault old new began why later ran ordered = record {
   refused = why;
@@ -51,7 +51,7 @@ is_made g old new limits id each =
     }
 
 -- at its end
-pub ends_so : (g : Geometry) (answer : Result (Unit {0}) CreateFault) (old new : Telling) → (IsTrue new.honest → IsHistory old.history) → IfErr answer (λ fault. IsNotCreated g fault old new)
+pub ends_so : (g : Geometry) (answer : Result (Unit {0}) CreateFault) (old new : RackState) → (IsTrue new.honest → IsHistory old.history) → IfErr answer (λ fault. IsNotCreated g fault old new)
     → WasLookedAt g old new → IsLater old new → AreNew g old new → AreOrdered g old new
     → (IsTrue new.honest → OnOk answer (IsMade g old.history new.history)) → Creates g answer old new
 ends_so g (Ok done) old new began refused looked later ran ordered made = record {

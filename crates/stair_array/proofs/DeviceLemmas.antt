@@ -23,7 +23,7 @@ use Rattle.stair_rack.specs.Writing.{Writing}
 use Rattle.stair_rack.proofs.StandingLemmas.{Spares, standing_on}
 use Rattle.stair_array.specs.Created.{created_sector}
 use Rattle.stair_array.specs.Look.{IsTaken}
-use Rattle.stair_rack.specs.Telling.{Telling}
+use Rattle.stair_rack.specs.RackState.{RackState}
 use Rattle.stair_array.specs.Making.{AreMade, IsBehind, IsMaking, IsOneGone, IsStoppedAt, IsStoppedBy}
 use Rattle.stair_array.specs.declared.fault.CreateFault.{CreateFault}
 use Rattle.stair_array.specs.declared.fault.CreateFault.TheVariants.{Gone, SmallDevice, AlreadyArray}
@@ -90,7 +90,7 @@ taken_reach {g} {j} k below t =
     reach_on {allowed = IsNoAttach j} j k (λ c may. may refl) t.since (λ attached. t.large k below)
 
 -- What a phase says of a slot that was gone, said of a slot that was taken.
-pub stopped_from : (g : Geometry) (j : ℕ) (old new : Telling) → Rose (old.gones j) (new.gones j)
+pub stopped_from : (g : Geometry) (j : ℕ) (old new : RackState) → Rose (old.gones j) (new.gones j)
     → (IsTrue new.honest → (before : List Happening) → IsHeld before old.history j
     → ((k : ℕ) → k < sectors_needed g → Reach k (slot_state old.history j)) → IsOfflineUntilAttached before new.history j) → IsStoppedAt g j old new
 stopped_from g j old new rose shut = record {
@@ -163,11 +163,11 @@ abbrev pub UpTo : Slots → ℕ → ℕ → ℕ → Type 0
 UpTo slots sector j k = HasSlot slots j × (gate_sector ≤ k) × (k < sector)
 
 -- Those below this sector were written.
-pub record LaidSoFar (g : Geometry) (slots : Slots) (sector : ℕ) (old now : Telling) : Type 0 where
+pub record LaidSoFar (g : Geometry) (slots : Slots) (sector : ℕ) (old now : RackState) : Type 0 where
   pub writing : IsTrue now.honest → Writing (behind g) (HasSlot slots) (λ j. ⊥) (UpTo slots sector) old.history now.history
   pub counts : NoneFalls old.bads now.bads old.gones now.gones
 
-pub laid_none : (g : Geometry) (slots : Slots) (now : Telling) → LaidSoFar g slots gate_sector now now
+pub laid_none : (g : Geometry) (slots : Slots) (now : RackState) → LaidSoFar g slots gate_sector now now
 laid_none g slots now = record {
   writing = λ is.
       Writing-same {what = behind g} {to = HasSlot slots} (λ j. (λ none. none, λ none. none)) (λ j k made. absurd (omega (arith, made.1, made.2)))
@@ -176,7 +176,7 @@ laid_none g slots now = record {
 }
 
 -- one sector more of each
-module _ (g : Geometry) (slots gone : Slots) (sector : ℕ) (bytes : List ℕ) (old now next : Telling) (so_far : LaidSoFar g slots sector old now)
+module _ (g : Geometry) (slots gone : Slots) (sector : ℕ) (bytes : List ℕ) (old now next : RackState) (so_far : LaidSoFar g slots sector old now)
     (same : now.honest ≡ next.honest) (past : gate_sector ≤ sector) (below : sector < sectors_needed g)
     (is_one : (j : ℕ) → bytes ≡ created_sector g j sector) (counts : NoneFalls now.bads next.bads now.gones next.gones)
     (wrote : IsTrue next.honest → Wrote slots gone sector bytes now.history next.history) where
@@ -221,7 +221,7 @@ all_sectors g sector last is within past =
     omega (arith, is, within (omega (arith, is, least)), past)
 
 -- all of them, and then syncs
-module _ (g : Geometry) (slots gone : Slots) (old now next : Telling) (so_far : LaidSoFar g slots (sectors_needed g) old now)
+module _ (g : Geometry) (slots gone : Slots) (old now next : RackState) (so_far : LaidSoFar g slots (sectors_needed g) old now)
     (same : now.honest ≡ next.honest) (synced : IsTrue next.honest → Settled slots gone now.history next.history) where
   laid_phase : IsTrue next.honest → Placed (behind g) (HasSlot slots) (λ j. ⊥ ⊎ HasSlot gone j) old.history next.history
   laid_phase is =
@@ -246,7 +246,7 @@ module _ (g : Geometry) (slots gone : Slots) (old now next : Telling) (so_far : 
       making_phase g (behind g) (HasSlot slots) (λ j. ⊥ ⊎ HasSlot gone j) (IsBehind g) (behind_new g (HasSlot slots)) (laid_phase is)
 
 -- the one that is answered of those that were gone
-pub stopped_by : (g : Geometry) (gone : Slots) (fault : CreateFault) (old new : Telling) → IsOneGone gone fault
+pub stopped_by : (g : Geometry) (gone : Slots) (fault : CreateFault) (old new : RackState) → IsOneGone gone fault
     → ((j : ℕ) → HasSlot gone j → (j < g.n) × IsStoppedAt g j old new) → IsStoppedBy g fault old new
 stopped_by g gone (Gone slot) old new one stopped = stopped slot one
 stopped_by g gone (SmallDevice slot has needs) old new one stopped = absurd one

@@ -3,7 +3,7 @@ use Rattle.std.proofs.Common.{◌≡◌, ℕ, ◌+◌, ◌*◌, ◌≤◌, List,
 use Rattle.std.specs.Prelude.{◌-◌, ◌^◌, IfErr, IsOk, Ok, Err}
 use Rattle.stair_model.specs.Sum.{sum_below}
 use Rattle.stair_model.proofs.CountLaws.{sum_below_constant, sum_below_le}
-use Rattle.stair_rack.specs.Telling.{Telling}
+use Rattle.stair_rack.specs.RackState.{RackState}
 use Rattle.stair_rack.specs.declared.watcher.Event.{Event}
 use Rattle.stair_member.specs.Membership.{IsMembership, Membership, why_of}
 use Rattle.stair_member.specs.declared.why.Why.{Why}
@@ -26,7 +26,7 @@ allowance_most (ReplaceSlot j) = omega arith
 allowance_most step = omega arith
 
 -- after a step that began with room for all of a session's draws the last one isn't used up
-pub never_spent : (step : Step) (m last : Membership) (x y : Telling) → IsMembership m → (few : DrawsFew step m last x y) → few.draw ≤ most_drawn
+pub never_spent : (step : Step) (m last : Membership) (x y : RackState) → IsMembership m → (few : DrawsFew step m last x y) → few.draw ≤ most_drawn
     → ¬ (last.drawn ≡ 2 ^ 64 - 1)
 never_spent step m last x y rules few room spent =
     let devices = rules.array.limits.devices in
@@ -39,7 +39,7 @@ never_spent step m last x y rules few room spent =
     omega (arith, devices, each, all, upto, allowed, had, spent)
 
 -- a step that admits no slot draws on from what its member had seen
-pub draws_on : (step : Step) → ((j : ℕ) → ¬ (step ≡ ReplaceSlot j)) → (m : Membership) (x y : Telling) (draw : ℕ) → HadSeen step m x y draw
+pub draws_on : (step : Step) → ((j : ℕ) → ¬ (step ≡ ReplaceSlot j)) → (m : Membership) (x y : RackState) (draw : ℕ) → HadSeen step m x y draw
     → draw ≡ m.drawn
 draws_on step other m x y draw (Before same) = same
 draws_on step other m x y draw (OnMedium j k super admits place moment geometry is least) = absurd (other j admits)

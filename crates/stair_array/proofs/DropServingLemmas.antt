@@ -7,7 +7,7 @@ use Rattle.stair_rack.specs.Crash.{image_now}
 use Rattle.stair_rack.specs.History.{Happening}
 use Rattle.stair_rack.specs.Moments.{AtEveryMoment}
 use Rattle.stair_rack.specs.Offline.{IsOfflineUntilAttached}
-use Rattle.stair_rack.specs.Telling.{IsLater, Telling}
+use Rattle.stair_rack.specs.RackState.{IsLater, RackState}
 use Rattle.stair_rack.proofs.CrashLemmas.{CrashMayLeave-now}
 use Rattle.stair_rack.proofs.MomentLemmas.{ran_join, at_last}
 use Rattle.stair_rack.proofs.TidyLemmas.{history_on}
@@ -21,13 +21,13 @@ use Rattle.stair_member.specs.declared.why.Why.TheVariants as why
 use Rattle.stair_state.specs.Blocks.{Codewords}
 use Rattle.stair_state.specs.State.{Content}
 use Rattle.stair_state.specs.Tolerance.{IsTolerated}
-use Rattle.stair_session.specs.Courses.{Fenced, LeavesOut, NoneWas, Point, point}
-use Rattle.stair_session.specs.Opening.{StaysArray, opened_with}
-use Rattle.stair_session.specs.Returning.{Returning}
-use Rattle.stair_session.specs.Session.{IsLiveIn, IsRebuiltIn}
-use Rattle.stair_session.proofs.StaysArrayLemmas.{left_stays}
-use Rattle.stair_session.proofs.Serving.{IsCalmTo, IsGoing, IsServing, tolerated_now, StandsAs, LeadsReads}
-use Rattle.stair_array.specs.Mends.{Drops}
+use Rattle.stair_invariant.specs.Effects.{Fenced, FencesGone, NoneWas, Snapshot, snapshot}
+use Rattle.stair_invariant.specs.Opening.{StaysArray, opened_with}
+use Rattle.stair_invariant.specs.Returning.{Returning}
+use Rattle.stair_invariant.specs.Session.{IsLiveIn, IsRebuiltIn}
+use Rattle.stair_invariant.proofs.StaysArrayLemmas.{left_stays}
+use Rattle.stair_invariant.proofs.Serving.{StaysWithinToleranceTo, IsGoing, IsServing, tolerated_now, StandsAs, LeadsReads}
+use Rattle.stair_array.specs.Mends.{FencesSlot}
 use Rattle.stair_array.proofs.AnsweredLemmas.{out_gone}
 use Rattle.stair_array.proofs.EnoughLemmas.{never_few}
 use Rattle.stair_array.proofs.LeftServingLemmas.{StandsAt, leaving_stands, leaving_refused, stands_live}
@@ -35,9 +35,9 @@ use Rattle.stair_array.proofs.PartsLemmas.{out_after}
 use Rattle.stair_array.proofs.PromotionLemmas.{rebuilt_here}
 
 module _ (returning : Returning) (laws : LeadsReads returning) (before : List Happening) (m : Membership) (words : Codewords) (kept : Content) (j : ℕ)
-    (rebuilt : IsRebuiltIn m j) (old : Telling) (is : IsServing returning before (opened_with m) words kept old.history) (z : Point)
+    (rebuilt : IsRebuiltIn m j) (old : RackState) (is : IsServing returning before (opened_with m) words kept old.history) (z : Snapshot)
     (honest : IsTrue z.told.honest)
-    (refusal : Option FenceFault) (drops : Drops j refusal (point m old) z) where
+    (refusal : Option FenceFault) (drops : FencesSlot j refusal (snapshot m old) z) where
   own_only : (i : ℕ) → HasSlot drops.gone i → i ≡ j
   own_only i has = (drops.alone i).0 has
 
@@ -51,32 +51,32 @@ module _ (returning : Returning) (laws : LeadsReads returning) (before : List Ha
       absurd (cc)
 
   pub drop_later : IsLater old z.told
-  drop_later = (out_after drops.gone refusal (point m old) z drops.leaves).later
+  drop_later = (out_after drops.gone refusal (snapshot m old) z drops.leaves).later
 
   pub drop_stands : AtEveryMoment (StandsAt returning before m kept) old.history z.told.history
   drop_stands = leaving_stands returning laws before (opened_with m) words kept drops.gone refusal old z drops.leaves honest is here off
 
   pub drop_stays : StaysArray m z.member
-  drop_stays = left_stays drops.gone refusal (point m old) z drops.leaves is.is_open.array.member
+  drop_stays = left_stays drops.gone refusal (snapshot m old) z drops.leaves is.is_open.array.member
 
   pub drop_why : why_of z.member j ≡ why.Gone
-  drop_why = out_gone drops.gone refusal (point m old) z drops.leaves j ((drops.alone j).1 refl) rebuilt.below
+  drop_why = out_gone drops.gone refusal (snapshot m old) z drops.leaves j ((drops.alone j).1 refl) rebuilt.below
 
   -- done
   pub drop_serves : refusal ≡ None → IsGoing returning m.array.geometry before z.told.history
       → IsServing returning before (opened_with z.member) words kept z.told.history
   drop_serves fine on =
       laws.left before (opened_with m) words kept drops.gone old z is
-      (subst (λ (r : Option FenceFault). LeavesOut drops.gone r (point m old) z) fine drops.leaves) honest here on
+      (subst (λ (r : Option FenceFault). FencesGone drops.gone r (snapshot m old) z) fine drops.leaves) honest here on
 
   -- refused
-  pub drop_refused : (fault : FenceFault) → refusal ≡ Some fault → IsCalmTo returning m.array.geometry before z.told.history
+  pub drop_refused : (fault : FenceFault) → refusal ≡ Some fault → StaysWithinToleranceTo returning m.array.geometry before z.told.history
       → StandsAs returning m kept None z.told.history
   drop_refused fault at calm =
       leaving_refused returning laws before (opened_with m) words kept drops.gone refusal old z drops.leaves honest is here off fault at calm
 
   -- not for want of slots
-  module _ (calm : IsCalmTo returning m.array.geometry before z.told.history) where
+  module _ (calm : StaysWithinToleranceTo returning m.array.geometry before z.told.history) where
     later : Ran any_call old.history z.told.history
     later = drop_later.ran honest
 
@@ -95,7 +95,7 @@ module _ (returning : Returning) (laws : LeadsReads returning) (before : List Ha
     pub drop_enough : (whys : List Why) → ¬ (refusal ≡ Some (TooFew whys))
     drop_enough whys at = by drops.leaves
       where
-        by : LeavesOut drops.gone refusal (point m old) z → ⊥
+        by : FencesGone drops.gone refusal (snapshot m old) z → ⊥
         by (NoneWas none same fine) = let never : None ≡ Some (TooFew whys) = sym fine ∙ at in absurd (cc)
         by (Fenced i has (Ok fallen) fine does) = let never : None ≡ Some (TooFew whys) = sym fine ∙ at in absurd (cc)
         by (Fenced i has (Err fault) fine does) =

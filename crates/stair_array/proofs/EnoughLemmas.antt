@@ -8,7 +8,7 @@ use Rattle.stair_rack.specs.Crash.{image_now}
 use Rattle.stair_rack.specs.History.{Happening, slot_state}
 use Rattle.stair_rack.specs.Media.{has_sector}
 use Rattle.stair_rack.specs.Offline.{IsAttached, IsHeld, IsOfflineUntilAttached}
-use Rattle.stair_rack.specs.Telling.{Telling}
+use Rattle.stair_rack.specs.RackState.{RackState}
 use Rattle.stair_rack.proofs.CrashLemmas.{CrashMayLeave-now}
 use Rattle.stair_rack.proofs.TidyLemmas.{HasSize, size_on}
 use Rattle.stair_super.specs.Superblock.{Superblock}
@@ -16,7 +16,7 @@ use Rattle.stair_member.specs.Asked.{LeavesSectors}
 use Rattle.stair_member.specs.Current.{IsCurrent, IsFailed, IsLive}
 use Rattle.stair_member.specs.Establishing.{Fences}
 use Rattle.stair_member.specs.Membership.{Membership, why_of}
-use Rattle.stair_member.specs.declared.aim.Aim.TheVariants.{Fence}
+use Rattle.stair_member.specs.declared.aim.EpochChange.TheVariants.{Fence}
 use Rattle.stair_member.specs.declared.fault.FenceFault.{FenceFault}
 use Rattle.stair_member.specs.declared.fault.FenceFault.TheVariants.{TooFew}
 use Rattle.stair_member.specs.declared.why.Why.{Why}
@@ -25,11 +25,11 @@ use Rattle.stair_state.specs.Represents.{ImageRepresents, IsLargeEnough, Left}
 use Rattle.stair_state.specs.State.{State}
 use Rattle.stair_state.specs.Surveyed.{Bare, IsOwnOrBare, Own}
 use Rattle.stair_state.specs.Tolerance.{IsTolerated}
-use Rattle.stair_session.specs.Opening.{IsFoundFor}
-use Rattle.stair_session.specs.Session.{IsLiveIn}
-use Rattle.stair_session.proofs.EnoughLeft.{epoch_never_few}
+use Rattle.stair_invariant.specs.Opening.{IsFoundFor}
+use Rattle.stair_invariant.specs.Session.{IsLiveIn}
+use Rattle.stair_invariant.proofs.EnoughLeft.{epoch_never_few}
 
-pub never_few : (before : List Happening) (m : Membership) (leaving : Slots) (last : Membership) (fault : FenceFault) (old new : Telling)
+pub never_few : (before : List Happening) (m : Membership) (leaving : Slots) (last : Membership) (fault : FenceFault) (old new : RackState)
     → Fences leaving m last (Err fault) old new → IsTrue new.honest → (g : Geometry) → g ≡ m.array.geometry → IsTolerated g before new.history
     → ((current : Superblock) → IsCurrent g (image_now new.history) current → (j : ℕ) → IsLive g (image_now new.history) current j
     → why_of m j ≡ why.Here) → ((j : ℕ) → IsLiveIn m j → IsHeld before old.history j)

@@ -28,7 +28,7 @@ use Rattle.stair_super.specs.Superblock.{Superblock, superblock_of}
 use Rattle.stair_super.specs.declared.configuration.Configuration.{Configuration}
 use Rattle.stair_super.specs.declared.mark.Mark.{Mark}
 use Rattle.stair_array.specs.Created.{created_sector, first_configuration, first_joins, first_marks, first_super}
-use Rattle.stair_rack.specs.Telling.{Telling}
+use Rattle.stair_rack.specs.RackState.{RackState}
 use Rattle.stair_array.specs.Making.{AreMade, IsFirst, IsInTurn, IsMaking, IsPlace, IsSlotOf, IsStoppedAt, IsStoppedBy, PlacesInTurn, WritesInTurn}
 use Rattle.stair_array.specs.declared.fault.CreateFault.TheVariants.{Gone}
 use Rattle.stair_array.proofs.CreatedLemmas.{created_place}
@@ -88,7 +88,7 @@ pub of_place : (g : Geometry) {slot sector : ℕ} {old new : List Happening} →
 of_place g {slot = slot} place ran =
     making_within g {slots = IsSlot slot} {more = IsSlot slot} (λ j on. on) (λ k at. subst IsPlace (sym at) place) ran
 
-pub place_gone : (g : Geometry) (slot sector : ℕ) (bytes : List ℕ) (answer : Reply) (old now next : Telling) → sector < 2 → answer ≡ reply.Gone
+pub place_gone : (g : Geometry) (slot sector : ℕ) (bytes : List ℕ) (answer : Reply) (old now next : RackState) → sector < 2 → answer ≡ reply.Gone
     → NoneFalls old.bads now.bads old.gones now.gones → NoneFalls now.bads next.bads now.gones next.gones → Rose (now.gones slot) (next.gones slot)
     → (IsTrue next.honest → Ran (IsMaking g (IsSlot slot) IsPlace) old.history now.history)
     → (IsTrue next.honest → Placed (one_write slot sector bytes) (IsSlot slot) (IsGoneSlot slot answer) now.history next.history)
@@ -239,13 +239,13 @@ places_in_turn g slot bytes first second old mid new text done p q =
 -- ALL SLOTS OF THE ARRAY
 
 -- The slots below this one have their superblocks.
-pub record EnrolledSoFar (g : Geometry) (i : ℕ) (old now : Telling) : Type 0 where
+pub record EnrolledSoFar (g : Geometry) (i : ℕ) (old now : RackState) : Type 0 where
   pub each : IsTrue now.honest → (j : ℕ) → j < i → AreMade g IsPlace j old.history now.history
   pub ran : IsTrue now.honest → Ran (IsMaking g (IsSlotOf g) IsPlace) old.history now.history
   pub in_turn : IsTrue now.honest → PlacesInTurn g old.history now.history
   pub counts : NoneFalls old.bads now.bads old.gones now.gones
 
-pub enrolled_none : (g : Geometry) (now : Telling) → EnrolledSoFar g 0 now now
+pub enrolled_none : (g : Geometry) (now : RackState) → EnrolledSoFar g 0 now now
 enrolled_none g now = record {
   each = λ is j below. absurd (omega arith);
   ran = λ is. ran_none now.history;
@@ -253,7 +253,7 @@ enrolled_none g now = record {
   counts = NoneFalls-same now.bads now.gones;
 }
 
-module _ (g : Geometry) (i : ℕ) (old now next : Telling) (so_far : EnrolledSoFar g i old now) (same : now.honest ≡ next.honest) (within : i < g.n)
+module _ (g : Geometry) (i : ℕ) (old now next : RackState) (so_far : EnrolledSoFar g i old now) (same : now.honest ≡ next.honest) (within : i < g.n)
     (ran : IsTrue next.honest → Ran (IsMaking g (IsSlot i) IsPlace) now.history next.history)
     (in_turn : IsTrue next.honest → PlacesInTurn g now.history next.history) (counts : NoneFalls now.bads next.bads now.gones next.gones) where
   pub enrolled_ran : IsTrue next.honest → Ran (IsMaking g (IsSlotOf g) IsPlace) old.history next.history

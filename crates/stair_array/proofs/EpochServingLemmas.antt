@@ -12,7 +12,7 @@ use Rattle.stair_rack.specs.Media.{Image}
 use Rattle.stair_rack.specs.Moments.{IsMoment}
 use Rattle.stair_rack.specs.Offline.{IsHeld, IsOffline, IsOfflineUntilAttached}
 use Rattle.stair_rack.specs.Stretch.{NothingReturned}
-use Rattle.stair_rack.specs.Telling.{Telling}
+use Rattle.stair_rack.specs.RackState.{RackState}
 use Rattle.stair_rack.proofs.CrashLemmas.{CrashMayLeave-now}
 use Rattle.stair_rack.proofs.MomentLemmas.{moment_between, moment_last, ran_any, ran_before, ran_join}
 use Rattle.stair_rack.proofs.OfflineLemmas.{offline_now}
@@ -27,8 +27,8 @@ use Rattle.stair_member.specs.Epochs.{IsIssuing}
 use Rattle.stair_member.specs.Establishing.{Establishes}
 use Rattle.stair_member.specs.Fencing.{HasStood, IsFencing}
 use Rattle.stair_member.specs.Membership.{IsMissing, Membership, why_of}
-use Rattle.stair_member.specs.declared.aim.Aim.{Aim}
-use Rattle.stair_member.specs.declared.aim.Aim.TheVariants.{Promote}
+use Rattle.stair_member.specs.declared.aim.EpochChange.{EpochChange}
+use Rattle.stair_member.specs.declared.aim.EpochChange.TheVariants.{Promote}
 use Rattle.stair_member.specs.declared.fault.FenceFault.{FenceFault}
 use Rattle.stair_member.specs.declared.fault.FenceFault.TheVariants as fence
 use Rattle.stair_member.specs.declared.why.Why.{Why}
@@ -39,28 +39,28 @@ use Rattle.stair_state.specs.Represents.{AreSteady, Represents, RepresentsAlone}
 use Rattle.stair_state.specs.State.{Change, Content}
 use Rattle.stair_state.specs.Tolerance.{IsTolerated, IsToleratedAlone}
 use Rattle.stair_state.proofs.OutsideLemmas.{tolerated_alone}
-use Rattle.stair_session.specs.InSession.{IsAimedContent, IsOfContent, IsReadyFor, state_with}
-use Rattle.stair_session.specs.Leading.{led_to}
-use Rattle.stair_session.specs.Returning.{NoneReturns}
-use Rattle.stair_session.specs.SeatSteps.{EachMayDrop, MayDrop, SeatsMove}
-use Rattle.stair_session.specs.Session.{ArrayState, IsLiveIn, IsOpenWith, IsRebuiltIn, seats_in}
-use Rattle.stair_session.proofs.EnoughLeft.{epoch_never_few}
-use Rattle.stair_session.proofs.LeftOutLemmas.{none_leave, stood_where}
-use Rattle.stair_session.proofs.OpenWithLemmas.{established_open, keeps_rebuilds}
-use Rattle.stair_session.proofs.SeatLemmas.{seats_meanwhile}
-use Rattle.stair_session.proofs.Serving.{IsCalmTo, IsGoing, IsServing, tolerated_now}
-use Rattle.stair_session.proofs.SessionLemmas.{meanwhile}
-use Rattle.stair_session.proofs.SteadyEndLemmas.{epoch_steady}
-use Rattle.stair_session.proofs.Stamping.{live_before}
+use Rattle.stair_invariant.specs.InSession.{IsAimedContent, IsOfContent, IsReadyFor, state_with}
+use Rattle.stair_invariant.specs.Leading.{led_to}
+use Rattle.stair_invariant.specs.Returning.{NoneReturns}
+use Rattle.stair_invariant.specs.SeatSteps.{EachMayDrop, MayDrop, SeatsMove}
+use Rattle.stair_invariant.specs.Session.{ArrayState, IsLiveIn, IsOpenWith, IsRebuiltIn, seats_in}
+use Rattle.stair_invariant.proofs.EnoughLeft.{epoch_never_few}
+use Rattle.stair_invariant.proofs.LeftOutLemmas.{none_leave, stood_where}
+use Rattle.stair_invariant.proofs.OpenWithLemmas.{established_open, keeps_rebuilds}
+use Rattle.stair_invariant.proofs.SeatLemmas.{seats_meanwhile}
+use Rattle.stair_invariant.proofs.Serving.{StaysWithinToleranceTo, IsGoing, IsServing, tolerated_now}
+use Rattle.stair_invariant.proofs.SessionLemmas.{meanwhile}
+use Rattle.stair_invariant.proofs.SteadyEndLemmas.{epoch_steady}
+use Rattle.stair_invariant.proofs.Stamping.{live_before}
 use Rattle.stair_array.proofs.SeatedLemmas.{seated}
 use Rattle.stair_array.proofs.ServingLemmas.{goes_on}
 
 module _ (before : List Happening) (a : ArrayState) (words : Codewords) (kept : Content) (doubt : Option Change) (of : IsOfContent a.member words kept)
-    (aim : Aim) (aims : IsAimedContent aim a.member words kept doubt) (last : Membership) (refusal : Option FenceFault) (old new : Telling)
+    (aim : EpochChange) (aims : IsAimedContent aim a.member words kept doubt) (last : Membership) (refusal : Option FenceFault) (old new : RackState)
     (e : Establishes aim a.member last refusal old new) (honest : IsTrue new.honest) (ran_old : Ran any_call before old.history)
     (ready : IsReadyFor aim a.member words old.history) (rebuilt : (slot : ℕ) → aim ≡ Promote slot → IsRebuiltIn a.member slot) where
   abbrev CalmTo : List Happening → Type 0
-  CalmTo = IsCalmTo NoneReturns a.member.array.geometry before
+  CalmTo = StaysWithinToleranceTo NoneReturns a.member.array.geometry before
 
   -- seats are as they were, or as the aim has them
   abbrev pub SeatsGo : Configuration → Type 0

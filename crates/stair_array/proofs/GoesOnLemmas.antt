@@ -1,7 +1,7 @@
 -- What stays of an open array over a call in which slots may have been gone and dropped: marks, draws, and a rebuild.
 use Rattle.std.proofs.Common.{◌≡◌, ◌≢◌, ℕ, ◌<◌, ◌≤◌, refl, sym, ◌∙◌, subst, None, Option, Some}
 use Rattle.stair_model.specs.Geometry.{Geometry}
-use Rattle.stair_rack.specs.Telling.{Telling}
+use Rattle.stair_rack.specs.RackState.{RackState}
 use Rattle.stair_super.specs.Superblock.{mark_in}
 use Rattle.stair_super.specs.declared.mark.Mark.TheVariants.{Down}
 use Rattle.stair_member.specs.Aims.{mark_for}
@@ -9,9 +9,9 @@ use Rattle.stair_member.specs.Membership.{Membership, why_of}
 use Rattle.stair_member.specs.declared.fault.FenceFault.{FenceFault}
 use Rattle.stair_member.specs.declared.why.Why.{Why}
 use Rattle.stair_member.specs.declared.why.Why.TheVariants as why
-use Rattle.stair_session.specs.Courses.{Point, point}
-use Rattle.stair_session.specs.Rebuilding.{Rebuild}
-use Rattle.stair_session.specs.Session.{ArrayState, IsArray, IsRebuiltIn, Remembered}
+use Rattle.stair_invariant.specs.Effects.{Snapshot, snapshot}
+use Rattle.stair_invariant.specs.Rebuilding.{Rebuild}
+use Rattle.stair_invariant.specs.Session.{ArrayState, IsArray, IsRebuiltIn, Remembered}
 use Rattle.stair_array.specs.Causes.{MarkGoesOn, MemberGoesOn, WhyGoesOn}
 use Rattle.stair_array.specs.Draws.{Before, DrawsFew, allowance}
 use Rattle.stair_array.specs.Machine.{Step}
@@ -20,11 +20,11 @@ use Rattle.stair_array.proofs.PartsLemmas.{IsPart, MarkStays, WhyStays}
 
 -- SLOTS AND DRAWS, of whichever step
 
-pub why_goes_on : (step : Step) (x y : Point) (j : ℕ) → WhyStays x y j → WhyGoesOn step x.told y.told x.member y.member j
+pub why_goes_on : (step : Step) (x y : Snapshot) (j : ℕ) → WhyStays x y j → WhyGoesOn step x.told y.told x.member y.member j
 why_goes_on step x y j (WhyStays.Same same) = WhyGoesOn.Stays same
 why_goes_on step x y j (WhyStays.Went gone was) = WhyGoesOn.Went gone was
 
-pub draws_few : (step : Step) (x y : Point) → IsPart (allowance step) x y → DrawsFew step x.member y.member x.told y.told
+pub draws_few : (step : Step) (x y : Snapshot) → IsPart (allowance step) x y → DrawsFew step x.member y.member x.told y.told
 draws_few step x y part = record { draw = x.member.drawn; had_seen = Before refl; few = part.draws }
 
 away_mark : (w : Why) → w ≢ why.Here → w ≢ why.Rebuilding → mark_for w ≡ Down
@@ -33,7 +33,7 @@ away_mark why.Rebuilding live rebuilt = absurd (rebuilt refl)
 away_mark w live rebuilt = refl
 
 -- a mark says what is known of its slot, so that of one that wasn't here is Down already
-pub mark_goes_on : (step : Step) (x y : Point) (j : ℕ) → mark_in x.member.array j ≡ mark_for (why_of x.member j) → MarkStays x y j
+pub mark_goes_on : (step : Step) (x y : Snapshot) (j : ℕ) → mark_in x.member.array j ≡ mark_for (why_of x.member j) → MarkStays x y j
     → MarkGoesOn step x.told y.told x.member y.member j
 mark_goes_on step x y j marked (MarkStays.Same same) = MarkGoesOn.Stays same
 mark_goes_on step x y j marked (MarkStays.WasAway live rebuilt down) =
@@ -99,13 +99,13 @@ pub array_then : {is : ArrayState} (after : Option Remembered) → IsArray is �
 array_then after array = record { member = array.member; marks = array.marks; enough = array.enough; rebuilds = array.rebuilds }
 
 -- In a call that an array took slots may have been gone and dropped.
-module _ {more : ℕ} (m last : Membership) (rebuild : Option Rebuild) (known : Option Remembered) (stopped : Option FenceFault) (old new : Telling)
-    (array : IsArray (running m rebuild known)) (part : IsPart more (point m old) (point last new)) where
+module _ {more : ℕ} (m last : Membership) (rebuild : Option Rebuild) (known : Option Remembered) (stopped : Option FenceFault) (old new : RackState)
+    (array : IsArray (running m rebuild known)) (part : IsPart more (snapshot m old) (snapshot last new)) where
   pub member_goes_on : (step : Step) → MemberGoesOn step old new m last
   member_goes_on step = record {
     geometry = part.geometry;
-    whys = λ j below. why_goes_on step (point m old) (point last new) j (part.whys j below);
-    marks = λ j below. mark_goes_on step (point m old) (point last new) j (array.marks j below) (part.marks j below);
+    whys = λ j below. why_goes_on step (snapshot m old) (snapshot last new) j (part.whys j below);
+    marks = λ j below. mark_goes_on step (snapshot m old) (snapshot last new) j (array.marks j below) (part.marks j below);
     drawn = part.drawn;
   }
 

@@ -8,11 +8,11 @@ use Rattle.stair_rack.specs.Count.{Rose}
 use Rattle.stair_rack.specs.History.{Happening, SlotCall, slot_state}
 use Rattle.stair_rack.specs.Media.{has_sector}
 use Rattle.stair_rack.specs.Offline.{IsHeld, IsOfflineUntilAttached}
-use Rattle.stair_rack.specs.Telling.{IsLater, Telling}
+use Rattle.stair_rack.specs.RackState.{IsLater, RackState}
 use Rattle.stair_rack.proofs.GoneLemmas.{is_gone_wider}
 use Rattle.stair_rack.proofs.MomentLemmas.{at_start, ran_join, ran_none}
 use Rattle.stair_rack.proofs.OfflineLemmas.{stopped_on}
-use Rattle.stair_rack.proofs.TellingLemmas.{gones_wider, honest_within, later_join, later_none, some_wider}
+use Rattle.stair_rack.proofs.RackStateLemmas.{gones_wider, honest_within, later_join, later_none, some_wider}
 use Rattle.stair_member.specs.Membership.{IsHere, Membership}
 use Rattle.stair_array.specs.Causes.{IsSmall, WasGoneTo}
 
@@ -22,14 +22,14 @@ abbrev pub attaches_none : ℕ → SlotCall → Type 0
 attaches_none j call = IsBesideAttach call
 
 -- the same rack at a later moment, and no call attached a slot meanwhile
-pub record IsAfter (old new : Telling) : Type 0 where
+pub record IsAfter (old new : RackState) : Type 0 where
   pub later : IsLater old new
   pub beside : IsTrue new.honest → Ran attaches_none old.history new.history
 
-pub after_none : (now : Telling) → IsAfter now now
+pub after_none : (now : RackState) → IsAfter now now
 after_none now = record { later = later_none now; beside = λ honest. ran_none now.history }
 
-pub after_join : {old mid new : Telling} → IsAfter old mid → IsAfter mid new → IsAfter old new
+pub after_join : {old mid new : RackState} → IsAfter old mid → IsAfter mid new → IsAfter old new
 after_join first second = record {
   later = later_join first.later second.later;
   beside = λ honest. ran_join (first.beside (second.later.honest ∙ honest)) (second.beside honest);
@@ -38,7 +38,7 @@ after_join first second = record {
 -- SLOTS THAT WERE GONE
 
 -- one that was gone was gone in each longer stretch
-pub gone_to_wider : (m : Membership) (j : ℕ) (old mid new later : Telling) → IsLater old mid → IsLater mid new → IsAfter new later
+pub gone_to_wider : (m : Membership) (j : ℕ) (old mid new later : RackState) → IsLater old mid → IsLater mid new → IsAfter new later
     → WasGoneTo m j mid new → WasGoneTo m j old later
 gone_to_wider m j old mid new later first within second (WasGoneTo.Offline gone) =
     WasGoneTo.Offline
@@ -54,14 +54,14 @@ gone_to_wider m j old mid new later first within second (WasGoneTo.PastEnd rose 
     })
 
 -- and gone to an earlier member of the same array
-pub gone_to_earlier : (m start : Membership) (j : ℕ) (old new : Telling) → start.array.geometry ≡ m.array.geometry → (IsHere start j → IsHere m j)
+pub gone_to_earlier : (m start : Membership) (j : ℕ) (old new : RackState) → start.array.geometry ≡ m.array.geometry → (IsHere start j → IsHere m j)
     → WasGoneTo start j old new → WasGoneTo m j old new
 gone_to_earlier m start j old new same back (WasGoneTo.Offline gone) = WasGoneTo.Offline gone
 gone_to_earlier m start j old new same back (WasGoneTo.PastEnd rose here has needs small) =
     WasGoneTo.PastEnd rose (back here) has needs (subst (λ (g : Geometry). IsSmall g j has needs old new) same small)
 
 -- A slot that took part, and that is offline where its medium has all sectors that the array needs, was gone.
-module _ (m : Membership) (j : ℕ) (old new : Telling) (after : IsAfter old new) (here : IsHere m j) (rose : Rose (old.gones j) (new.gones j))
+module _ (m : Membership) (j : ℕ) (old new : RackState) (after : IsAfter old new) (here : IsHere m j) (rose : Rose (old.gones j) (new.gones j))
     (shut : IsTrue new.honest → (before : List Happening) → IsHeld before old.history j
     → ((slot_state old.history j).attached ≡ true → (k : ℕ) → k < sectors_needed m.array.geometry
     → IsTrue (has_sector (slot_state old.history j).size k)) → IsOfflineUntilAttached before new.history j) where

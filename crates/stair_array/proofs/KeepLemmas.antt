@@ -8,7 +8,7 @@ use Rattle.stair_rack.specs.History.{SlotCall, Happening}
 use Rattle.stair_rack.specs.Moments.{IsMoment}
 use Rattle.stair_rack.specs.Offline.{IsOffline, RackStopped}
 use Rattle.stair_rack.specs.Stretch.{IsNoWrite, NothingReturned, NothingWritten, every_slot}
-use Rattle.stair_rack.specs.Telling.{IsLater, Telling}
+use Rattle.stair_rack.specs.RackState.{IsLater, RackState}
 use Rattle.stair_rack.proofs.CrashLemmas.{CrashMayLeave-now}
 use Rattle.stair_rack.proofs.MomentLemmas.{ran_before, ran_weakened}
 use Rattle.stair_rack.proofs.StretchLemmas.{each_before, ran_sparing}
@@ -32,7 +32,7 @@ no_writes {allowed} ran none =
     ran_weakened {allowed = λ j c. every_slot j → IsNoWrite c} {more = no_write} (λ j c may. may tt)
     (ran_sparing {allowed = allowed} {slots = every_slot} ran none)
 
-module _ (array g : Geometry) (before : List Happening) (old mid : Telling) (honest : IsTrue mid.honest) (is : IsHistory old.history)
+module _ (array g : Geometry) (before : List Happening) (old mid : RackState) (honest : IsTrue mid.honest) (is : IsHistory old.history)
     (ran : Ran no_write old.history mid.history) (none : NothingReturned old.history mid.history)
     (within : IsWithinTolerance (IsOffline before mid.history) array (image_now mid.history)) where
   abbrev slot : ℕ
@@ -70,10 +70,10 @@ module _ (array g : Geometry) (before : List Happening) (old mid : Telling) (hon
         | Second holds older ↦ refuses 1 live.super (omega arith) holds (passed slot below)
       ]
 
-module _ (array g : Geometry) (answer : Result (Unit {0}) CreateFault) (before : List Happening) (old new : Telling)
+module _ (array g : Geometry) (answer : Result (Unit {0}) CreateFault) (before : List Happening) (old new : RackState)
     (honest : IsTrue new.honest) (creates : Creates g answer old new) (none : NothingReturned old.history new.history)
     (tolerated : ToleratedUnwritten array before old.history new.history) where
-  not_passed : (mid : Telling) → AllPassed g old mid → IsLater mid new → ⊥
+  not_passed : (mid : RackState) → AllPassed g old mid → IsLater mid new → ⊥
   not_passed mid passed later =
       let honest_mid : IsTrue mid.honest = subst IsTrue (sym later.honest) honest in
       let unwritten = passed.unwritten honest_mid in
@@ -96,7 +96,7 @@ module _ (array g : Geometry) (answer : Result (Unit {0}) CreateFault) (before :
   arrays_kept = kept_by answer creates
 
 -- and what stands goes on to do so
-pub states_kept : (s : State) (g : Geometry) (answer : Result (Unit {0}) CreateFault) (before : List Happening) (old new : Telling)
+pub states_kept : (s : State) (g : Geometry) (answer : Result (Unit {0}) CreateFault) (before : List Happening) (old new : RackState)
     → IsTrue new.honest → Creates g answer old new → Represents s old.history → NothingReturned old.history new.history
     → ToleratedUnwritten s.geometry before old.history new.history
     → (h : List Happening) → IsMoment old.history h new.history → Represents (without_seats s) h

@@ -14,15 +14,15 @@ use Rattle.stair_member.specs.Seats.{Seats}
 use Rattle.stair_member.specs.declared.fault.FenceFault.{FenceFault}
 use Rattle.stair_state.specs.Blocks.{Codewords}
 use Rattle.stair_state.specs.State.{Content, State}
-use Rattle.stair_session.specs.Courses.{Point, point}
-use Rattle.stair_session.specs.InSession.{state_with}
-use Rattle.stair_session.specs.Leading.{led_to}
-use Rattle.stair_session.specs.Opening.{StaysArray}
-use Rattle.stair_session.specs.Rebuilding.{Rebuild}
-use Rattle.stair_session.specs.Returning.{IsCalm, Returning, StandsFor}
-use Rattle.stair_session.specs.SeatSteps.{EachMayDrop}
-use Rattle.stair_session.specs.Session.{ArrayState, IsRememberedIn, seats_in}
-use Rattle.stair_session.proofs.Serving.{IsCalmTo, IsServing, LeadsReads, StandsAs}
+use Rattle.stair_invariant.specs.Effects.{Snapshot, snapshot}
+use Rattle.stair_invariant.specs.InSession.{state_with}
+use Rattle.stair_invariant.specs.Leading.{led_to}
+use Rattle.stair_invariant.specs.Opening.{StaysArray}
+use Rattle.stair_invariant.specs.Rebuilding.{Rebuild}
+use Rattle.stair_invariant.specs.Returning.{StaysWithinTolerance, Returning, StandsFor}
+use Rattle.stair_invariant.specs.SeatSteps.{EachMayDrop}
+use Rattle.stair_invariant.specs.Session.{ArrayState, IsRememberedIn, seats_in}
+use Rattle.stair_invariant.proofs.Serving.{StaysWithinToleranceTo, IsServing, LeadsReads, StandsAs}
 use Rattle.stair_array.specs.Calls.{refused}
 use Rattle.stair_array.specs.Machine.{Answer, AreKnown, GivenBy, Gone, HoldsAfter, IsAsItWas, IsFinal, MayBegin, PassesTests, Recover, Refusal, Row, SeatsAfter, Step, WasBegun}
 use Rattle.stair_array.specs.Promise.{BeginsWith, IsInState, IsLed, IsLeftBy, IsOpenFor, Keeps, KeepsProgress, KeepsRebuild, Performs, Seen, is_open}
@@ -35,13 +35,13 @@ use Rattle.stair_array.proofs.OpenStepLemmas.{forgetting, goes_on_as, kept_fault
 -- The array serves on, and this is given; or it serves on and is refused what isn't an epoch; or an epoch was refused, and the rack
 -- represents the array.
 pub data Outcome (returning : Returning) (before : List Happening) (rebuild : Option Rebuild) (stopped : Option FenceFault) (words : Codewords)
-    (kept : Content) (x : Point)
-    (T Inside : Type 0) (Right : T → Type 0) : Result T Refusal → Point → Type 0 where
-  Gives : (given : T) (y : Point) → ServesOn returning before rebuild stopped words kept x y → StaysArray x.member y.member → Inside → Right given
+    (kept : Content) (x : Snapshot)
+    (T Inside : Type 0) (Right : T → Type 0) : Result T Refusal → Snapshot → Type 0 where
+  Gives : (given : T) (y : Snapshot) → ServesOn returning before rebuild stopped words kept x y → StaysArray x.member y.member → Inside → Right given
       → Outcome returning before rebuild stopped words kept x T Inside Right (Ok given) y
-  Lacks : (refusal : Refusal) (y : Point) → ServesOn returning before rebuild stopped words kept x y → StaysArray x.member y.member → ¬ IsFinal refusal
+  Lacks : (refusal : Refusal) (y : Snapshot) → ServesOn returning before rebuild stopped words kept x y → StaysArray x.member y.member → ¬ IsFinal refusal
       → Outcome returning before rebuild stopped words kept x T Inside Right (Err refusal) y
-  Stops : (fault : FenceFault) (y : Point) → Inside → StandsAs returning x.member kept None y.told.history
+  Stops : (fault : FenceFault) (y : Snapshot) → Inside → StandsAs returning x.member kept None y.told.history
       → Outcome returning before rebuild stopped words kept x T Inside Right (Err (refused fault)) y
 
 -- THE STEP
@@ -66,8 +66,8 @@ module _ (returning : Returning) (laws : LeadsReads returning) (step : Step) (ke
   pub serves : IsServing returning before (forgetting p.was) begins.words s.content x.told.history
   serves = serves_bare returning laws step keeping.no_opening answer events x y p before s state history
 
-  pub calm_begun : (h : List Happening) → IsCalm returning s.geometry (is_open x.session) before h
-      → IsCalmTo returning p.was.member.array.geometry before h
+  pub calm_begun : (h : List Happening) → StaysWithinTolerance returning s.geometry (is_open x.session) before h
+      → StaysWithinToleranceTo returning p.was.member.array.geometry before h
   calm_begun = calm_first returning laws step keeping.no_opening answer events x y p before s state
 
   as_it_was : (now : State) → now.content ≡ s.content → now.in_doubt ≡ None → IsAsItWas s now
@@ -92,14 +92,14 @@ module _ (returning : Returning) (laws : LeadsReads returning) (step : Step) (ke
   module _ (Inside : Type 0) (Right : GivenBy step → Type 0) (passes : Inside → PassesTests step s (seats_in p.was.member.array))
       (holds : (given : GivenBy step) (now : State) → Right given → IsAsItWas s now → HoldsAfter step (Ok given) s now) where
     -- the array serves on
-    went : (given : Answer step) (v : Point) → v ≡ point p.is.member y.told → given ≡ answer
-        → ServesOn returning before p.was.rebuild p.was.stopped begins.words s.content (point p.was.member x.told) v → StaysArray p.was.member v.member
+    went : (given : Answer step) (v : Snapshot) → v ≡ snapshot p.is.member y.told → given ≡ answer
+        → ServesOn returning before p.was.rebuild p.was.stopped begins.words s.content (snapshot p.was.member x.told) v → StaysArray p.was.member v.member
         → (WasBegun step given → PassesTests step s (seats_in p.was.member.array)) → ((now : State) → IsAsItWas s now → HoldsAfter step given s now)
-        → IsRememberedIn begins.words p.is.remembered → IsCalmTo returning p.was.member.array.geometry before y.told.history → IsLed returning p.was.member before s step answer y
+        → IsRememberedIn begins.words p.is.remembered → StaysWithinToleranceTo returning p.was.member.array.geometry before y.told.history → IsLed returning p.was.member before s step answer y
     went given v at is_answer serves_on stays passes_so holds_so known calm =
         let last : Membership = p.is.member in
         let now : State = state_with last s.content None last.array in
-        let stays_y : StaysArray p.was.member last = subst (λ (u : Point). StaysArray p.was.member u.member) at stays in
+        let stays_y : StaysArray p.was.member last = subst (λ (u : Snapshot). StaysArray p.was.member u.member) at stays in
         record {
           state = now;
           is_step = record {
@@ -111,13 +111,13 @@ module _ (returning : Returning) (laws : LeadsReads returning) (step : Step) (ke
           };
           is_in =
               serves_as returning laws step keeping.no_opening answer events x y p before s state begins.words s.content stays_y
-              (subst (λ (u : Point). IsServing returning before (led_to p.was u.member) begins.words s.content u.told.history) at serves_on)
+              (subst (λ (u : Snapshot). IsServing returning before (led_to p.was u.member) begins.words s.content u.told.history) at serves_on)
               (keeping.rebuilds answer p.was p.is p.rebuild) known calm;
         }
 
-    pub led : (given : Answer step) (v : Point) → v ≡ point p.is.member y.told → given ≡ answer
-        → Outcome returning before p.was.rebuild p.was.stopped begins.words s.content (point p.was.member x.told) (GivenBy step) Inside Right given v
-        → IsRememberedIn begins.words p.is.remembered → IsCalmTo returning p.was.member.array.geometry before y.told.history → IsLed returning p.was.member before s step answer y
+    pub led : (given : Answer step) (v : Snapshot) → v ≡ snapshot p.is.member y.told → given ≡ answer
+        → Outcome returning before p.was.rebuild p.was.stopped begins.words s.content (snapshot p.was.member x.told) (GivenBy step) Inside Right given v
+        → IsRememberedIn begins.words p.is.remembered → StaysWithinToleranceTo returning p.was.member.array.geometry before y.told.history → IsLed returning p.was.member before s step answer y
     led _ _ at is_answer (Gives given v serves_on stays inside right) known calm =
         went (Ok given) v at is_answer serves_on stays (λ begun. passes inside) (λ now was. holds given now right was) known calm
     led _ _ at is_answer (Lacks refusal v serves_on stays not_final) known calm =
@@ -136,7 +136,7 @@ module _ (returning : Returning) (laws : LeadsReads returning) (step : Step) (ke
           };
           is_in =
               stops_as returning laws step keeping.no_opening answer events x y p before s state now
-              (subst (λ (u : Point). StandsFor returning now u.told.history) at is.stands)
+              (subst (λ (u : Snapshot). StandsFor returning now u.told.history) at is.stands)
               (kept_fault (GivenBy step) fault p.is.stopped
               (subst (λ (r : Answer step). Keeps r p.is.stopped) (sym is_answer)
               (goes_on_as returning laws step keeping.no_opening answer events x y p before s state).1));
@@ -146,7 +146,7 @@ module _ (returning : Returning) (laws : LeadsReads returning) (step : Step) (ke
 
   pub cuts : AtEveryMoment (StandsAt returning before p.was.member s.content) x.told.history
       y.told.history → (c : List Happening) → IsMoment x.told.history c y.told.history
-      → IsCalm returning s.geometry (is_open x.session) before c → EachImage (IsLeftBy returning step p.was.member before c s) c
+      → StaysWithinTolerance returning s.geometry (is_open x.session) before c → EachImage (IsLeftBy returning step p.was.member before c s) c
   cuts every c at calm image left =
       let is =
       at_moment {P = StandsAt returning before p.was.member s.content} every at (calm_begun c calm)

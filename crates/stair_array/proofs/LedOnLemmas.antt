@@ -16,16 +16,16 @@ use Rattle.stair_member.specs.declared.why.Why.{Why}
 use Rattle.stair_member.specs.declared.why.Why.TheVariants as why
 use Rattle.stair_state.specs.Blocks.{AreEncodingsOf, Codewords}
 use Rattle.stair_state.specs.State.{Content}
-use Rattle.stair_session.specs.Courses.{Point}
-use Rattle.stair_session.specs.InSession.{IsOfContent}
-use Rattle.stair_session.specs.Leading.{IsOpenAmid, led_to, rebuild_if, rebuild_in}
-use Rattle.stair_session.specs.Opening.{IsOpening, StaysArray}
-use Rattle.stair_session.specs.Rebuilding.{Rebuild}
-use Rattle.stair_session.specs.SeatSteps.{EachMayDrop}
-use Rattle.stair_session.specs.Session.{ArrayState, IsArray, IsOpenWith, seats_in}
-use Rattle.stair_session.specs.UnderWay.{AreKept}
-use Rattle.stair_session.proofs.OpenWithLemmas.{goes_on_from, rebuilds_on}
-use Rattle.stair_session.proofs.SeatLemmas.{IsListed, down_or_not, down_seat, past_down, same_seat}
+use Rattle.stair_invariant.specs.Effects.{Snapshot}
+use Rattle.stair_invariant.specs.InSession.{IsOfContent}
+use Rattle.stair_invariant.specs.Leading.{IsOpenAmid, led_to, rebuild_if, rebuild_in}
+use Rattle.stair_invariant.specs.Opening.{IsOpening, StaysArray}
+use Rattle.stair_invariant.specs.Rebuilding.{Rebuild}
+use Rattle.stair_invariant.specs.SeatSteps.{EachMayDrop}
+use Rattle.stair_invariant.specs.Session.{ArrayState, IsArray, IsOpenWith, seats_in}
+use Rattle.stair_invariant.specs.UnderWay.{AreKept}
+use Rattle.stair_invariant.proofs.OpenWithLemmas.{goes_on_from, rebuilds_on}
+use Rattle.stair_invariant.proofs.SeatLemmas.{IsListed, down_or_not, down_seat, past_down, same_seat}
 use Rattle.stair_array.specs.Promise.{Ended, KeepsProgress, Stays}
 
 -- what an epoch leaves as it was, it says of the content
@@ -87,7 +87,7 @@ led_again before a y z words h first from then stays is =
         ∙ ap (λ (w : Why). rebuild_if w rebuild) last
 
 -- what lasts in the midst of a redo does so of the array without its rebuild
-pub amid_opening : (before : List Happening) (rebuild : Option Rebuild) (stopped : Option FenceFault) (p : Point)
+pub amid_opening : (before : List Happening) (rebuild : Option Rebuild) (stopped : Option FenceFault) (p : Snapshot)
     → IsOpenAmid before (record { member = p.member; rebuild = rebuild; stopped = stopped; remembered = None }) p.told.history → IsBegun None p.member p.told.history
     → IsOpening before p
 amid_opening before rebuild stopped p is begun = record {

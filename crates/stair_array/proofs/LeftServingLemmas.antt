@@ -8,7 +8,7 @@ use Rattle.stair_rack.specs.History.{Happening, Made}
 use Rattle.stair_rack.specs.Media.{Image}
 use Rattle.stair_rack.specs.Moments.{AtEveryMoment}
 use Rattle.stair_rack.specs.Offline.{IsOfflineUntilAttached, IsOffline}
-use Rattle.stair_rack.specs.Telling.{Telling}
+use Rattle.stair_rack.specs.RackState.{RackState}
 use Rattle.stair_rack.proofs.CrashLemmas.{CrashMayLeave-now}
 use Rattle.stair_rack.proofs.MomentLemmas.{at_every_from, at_every_none, ran_any, ran_before, ran_join}
 use Rattle.stair_rack.proofs.TidyLemmas.{history_tidy, left_past_end}
@@ -22,20 +22,20 @@ use Rattle.stair_member.specs.declared.why.Why.TheVariants as why
 use Rattle.stair_state.specs.Blocks.{Codewords}
 use Rattle.stair_state.specs.State.{Content}
 use Rattle.stair_state.specs.Tolerance.{IsWithinTolerance}
-use Rattle.stair_session.specs.Courses.{Fenced, LeavesOut, NoneWas, Point, point}
-use Rattle.stair_session.specs.InSession.{state_with}
-use Rattle.stair_session.specs.Returning.{Returning}
-use Rattle.stair_session.specs.Session.{ArrayState, IsLiveIn, seats_in}
-use Rattle.stair_session.proofs.EachAloneLemmas.{made_left}
-use Rattle.stair_session.proofs.RedoingLemmas.{out_ran}
-use Rattle.stair_session.proofs.Serving.{IsCalmTo, IsServing, LeadsReads, StandsAs, StandsIn, any_read, alone_seats}
-use Rattle.stair_session.proofs.Mending.{calm_going}
-use Rattle.stair_session.proofs.Stamping.{live_before}
+use Rattle.stair_invariant.specs.Effects.{Fenced, FencesGone, NoneWas, Snapshot, snapshot}
+use Rattle.stair_invariant.specs.InSession.{state_with}
+use Rattle.stair_invariant.specs.Returning.{Returning}
+use Rattle.stair_invariant.specs.Session.{ArrayState, IsLiveIn, seats_in}
+use Rattle.stair_invariant.proofs.EachAloneLemmas.{made_left}
+use Rattle.stair_invariant.proofs.RedoingLemmas.{out_ran}
+use Rattle.stair_invariant.proofs.Serving.{StaysWithinToleranceTo, IsServing, LeadsReads, StandsAs, StandsIn, any_read, alone_seats}
+use Rattle.stair_invariant.proofs.Mending.{calm_going}
+use Rattle.stair_invariant.proofs.Stamping.{live_before}
 
 -- within tolerance each image that a crash leaves represents the state, with no change in doubt
 abbrev pub StandsAt : Returning → List Happening → Membership → Content → List Happening → Type 0
 StandsAt returning before m kept c =
-    IsCalmTo returning m.array.geometry before c → (image : Image) → CrashMayLeave c image → StandsIn returning m kept None image
+    StaysWithinToleranceTo returning m.array.geometry before c → (image : Image) → CrashMayLeave c image → StandsIn returning m kept None image
 
 module _ (returning : Returning) (laws : LeadsReads returning) (before : List Happening) (a : ArrayState) (words : Codewords) (kept : Content) where
   abbrev Stands : List Happening → Type 0
@@ -44,7 +44,7 @@ module _ (returning : Returning) (laws : LeadsReads returning) (before : List Ha
   -- BETWEEN CALLS, and while cells are read
 
   pub serving_stands : (h : List Happening)
-      → (IsCalmTo returning a.member.array.geometry before h → IsServing returning before a words kept h) → Stands h
+      → (StaysWithinToleranceTo returning a.member.array.geometry before h → IsServing returning before a words kept h) → Stands h
   serving_stands h serves calm image left =
       let is = serves calm in
       record {
@@ -69,7 +69,7 @@ module _ (returning : Returning) (laws : LeadsReads returning) (before : List Ha
 
   -- SLOTS THAT ARE LEFT OUT, after reads
 
-  module _ (gone : Slots) (refusal : Option FenceFault) (mid : Telling) (y : Point) (leaves : LeavesOut gone refusal (point a.member mid) y)
+  module _ (gone : Slots) (refusal : Option FenceFault) (mid : RackState) (y : Snapshot) (leaves : FencesGone gone refusal (snapshot a.member mid) y)
       (honest : IsTrue y.told.honest) (is : IsServing returning before a words kept mid.history)
       (here : (j : ℕ) → HasSlot gone j → IsHere a.member j)
       (off : (j : ℕ) → HasSlot gone j → IsLiveIn a.member j → IsOfflineUntilAttached before mid.history j) where
@@ -77,11 +77,11 @@ module _ (returning : Returning) (laws : LeadsReads returning) (before : List Ha
     leaving_stands = by leaves
       where
         later : Ran any_call mid.history y.told.history
-        later = out_ran gone refusal (point a.member mid) y leaves honest
+        later = out_ran gone refusal (snapshot a.member mid) y leaves honest
 
-        by : LeavesOut gone refusal (point a.member mid) y → AtEveryMoment Stands mid.history y.told.history
+        by : FencesGone gone refusal (snapshot a.member mid) y → AtEveryMoment Stands mid.history y.told.history
         by (NoneWas out same fine) =
-            subst (λ (p : Point). AtEveryMoment Stands mid.history p.told.history) (sym same)
+            subst (λ (p : Snapshot). AtEveryMoment Stands mid.history p.told.history) (sym same)
             (at_every_none {P = Stands} mid.history (serving_stands mid.history (λ calm. is)))
         by (Fenced j has answer fine does) =
             at_every_from {P = Stands} later.more later.is
@@ -89,11 +89,11 @@ module _ (returning : Returning) (laws : LeadsReads returning) (before : List Ha
             laws.fencing before a words kept gone y.member answer mid y.told is does honest here off c at calm image left)
 
     -- refused
-    pub leaving_refused : (fault : FenceFault) → refusal ≡ Some fault → IsCalmTo returning a.member.array.geometry before y.told.history
+    pub leaving_refused : (fault : FenceFault) → refusal ≡ Some fault → StaysWithinToleranceTo returning a.member.array.geometry before y.told.history
         → StandsAs returning a.member kept None y.told.history
     leaving_refused fault at calm = by leaves
       where
-        by : LeavesOut gone refusal (point a.member mid) y → StandsAs returning a.member kept None y.told.history
+        by : FencesGone gone refusal (snapshot a.member mid) y → StandsAs returning a.member kept None y.told.history
         by (NoneWas out same fine) = absurd (let never : None ≡ Some fault = sym fine ∙ at in cc)
         by (Fenced j has answer fine does) = laws.fenced before a words kept gone y.member answer mid y.told is does honest here off calm
 

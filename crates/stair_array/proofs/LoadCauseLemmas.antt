@@ -9,17 +9,17 @@ use Rattle.stair_model.specs.Geometry.{Geometry}
 use Rattle.stair_model.specs.Slots.{HasSlot}
 use Rattle.stair_model.specs.Stripe.{Stripe}
 use Rattle.stair_rack.specs.Sector.{Damaged}
-use Rattle.stair_rack.specs.Telling.{IsReading}
-use Rattle.stair_rack.proofs.TellingLemmas.{later_none, reading_wider}
+use Rattle.stair_rack.specs.RackState.{IsReading}
+use Rattle.stair_rack.proofs.RackStateLemmas.{later_none, reading_wider}
 use Rattle.stair_member.specs.Epochs.{IsRefusedBy}
 use Rattle.stair_member.specs.declared.fault.FenceFault.{FenceFault}
 use Rattle.stair_member.specs.declared.why.Why.TheVariants as why
 use Rattle.stair_member.proofs.CountingLemmas.{has_or_not}
 use Rattle.stair_stripes.specs.Gathering.{IsAway, IsCellOf}
 use Rattle.stair_stripes.specs.declared.gathering.Gathered.{Gathered}
-use Rattle.stair_session.specs.Courses.{Fenced, LeavesOut, Loads, NoneWas, Point, point}
-use Rattle.stair_session.specs.Session.{IsLiveIn}
-use Rattle.stair_session.proofs.FindsLemmas.{live_here}
+use Rattle.stair_invariant.specs.Effects.{Fenced, FencesGone, Loads, NoneWas, Snapshot, snapshot}
+use Rattle.stair_invariant.specs.Session.{IsLiveIn}
+use Rattle.stair_invariant.proofs.FindsLemmas.{live_here}
 use Rattle.stair_array.specs.Calls.{IsLoaded, LoadsStripe, refused}
 use Rattle.stair_array.specs.Causes.{IsErasedFor, IsLost, LostOne, WasGoneTo}
 use Rattle.stair_array.specs.Machine.{Lost, Refusal}
@@ -30,30 +30,30 @@ use Rattle.stair_array.proofs.OutLemmas.{left_not}
 use Rattle.stair_array.proofs.PartsLemmas.{IsPart, WhyStays, here_back, live_back, out_after}
 
 -- an epoch was refused, and a slot was gone
-pub record StopsBy (fault : FenceFault) (x z : Point) : Type 0 where
+pub record StopsBy (fault : FenceFault) (x z : Snapshot) : Type 0 where
   pub by : IsRefusedBy z.member fault
   pub one : LostOne x.member x.told z.told
 
 -- why stripe t wasn't loaded: an epoch was refused, or what is erased isn't covered
-pub data Unloaded (t : ℕ) (refusal : Refusal) (x z : Point) : Type 0 where
+pub data Unloaded (t : ℕ) (refusal : Refusal) (x z : Snapshot) : Type 0 where
   ByEpoch : (fault : FenceFault) → refusal ≡ refused fault → StopsBy fault x z → Unloaded t refusal x z
   ByPattern : (counts : List ℕ) → refusal ≡ Lost t counts → IsLost x.member z.member x.told z.told t counts → Unloaded t refusal x z
 
 -- CELLS
 
-module _ (t : ℕ) (wanted : ℕ → ℕ → Type 0) (gathered : Gathered) (was read : Stripe) (refusal : Option FenceFault) (x z : Point)
+module _ (t : ℕ) (wanted : ℕ → ℕ → Type 0) (gathered : Gathered) (was read : Stripe) (refusal : Option FenceFault) (x z : Snapshot)
     (loads : Loads t wanted gathered was read refusal x z) where
   to_mid : IsAfter x.told loads.mid
   to_mid = gathers_after x.member.array.geometry loads.live t wanted gathered was read x.told loads.mid loads.gathers
 
   to_end : IsAfter loads.mid z.told
-  to_end = out_after gathered.gone refusal (point x.member loads.mid) z loads.leaves
+  to_end = out_after gathered.gone refusal (snapshot x.member loads.mid) z loads.leaves
 
   was_gone : (j : ℕ) → HasSlot gathered.gone j → WasGoneTo x.member j x.told z.told
   was_gone j has =
       gone_to_wider x.member j x.told x.told loads.mid z.told (later_none x.told) to_mid.later to_end (WasGoneTo.Offline (loads.gathers.gone j has))
 
-  lost_by : (fault : FenceFault) → refusal ≡ Some fault → LeavesOut gathered.gone refusal (point x.member loads.mid) z
+  lost_by : (fault : FenceFault) → refusal ≡ Some fault → FencesGone gathered.gone refusal (snapshot x.member loads.mid) z
       → LostOne x.member x.told z.told
   lost_by fault is (NoneWas none same fine) = absurd (let never : None ≡ Some fault = sym fine ∙ is in cc)
   lost_by fault is (Fenced j has answer fine e) =
@@ -61,7 +61,7 @@ module _ (t : ℕ) (wanted : ℕ → ℕ → Type 0) (gathered : Gathered) (was 
 
   pub cells_stopped : (fault : FenceFault) → refusal ≡ Some fault → StopsBy fault x z
   cells_stopped fault is = record {
-    by = left_refused gathered.gone refusal (point x.member loads.mid) z loads.leaves fault is;
+    by = left_refused gathered.gone refusal (snapshot x.member loads.mid) z loads.leaves fault is;
     one = lost_by fault is loads.leaves;
   }
 
@@ -72,8 +72,8 @@ module _ (t : ℕ) (wanted : ℕ → ℕ → Type 0) (gathered : Gathered) (was 
         | inl gone ↦
             IsErasedFor.SlotGone (was_gone j gone)
             (λ on.
-            left_not gathered.gone (point x.member loads.mid) z j
-            (subst (λ (r : Option FenceFault). LeavesOut gathered.gone r (point x.member loads.mid) z) fine loads.leaves) on gone)
+            left_not gathered.gone (snapshot x.member loads.mid) z j
+            (subst (λ (r : Option FenceFault). FencesGone gathered.gone r (snapshot x.member loads.mid) z) fine loads.leaves) on gone)
         | inr out ↦
             IsErasedFor.ReadBad
             (reading_wider x.told x.told loads.mid z.told (later_none x.told) to_mid.later.honest to_mid.later.counts to_end.later j
@@ -86,7 +86,7 @@ module _ (t : ℕ) (wanted : ℕ → ℕ → Type 0) (gathered : Gathered) (was 
 
 -- A STRIPE
 
-lost : (t : ℕ) (gathered : Gathered) (was read into : Stripe) (x z : Point)
+lost : (t : ℕ) (gathered : Gathered) (was read into : Stripe) (x z : Snapshot)
     → Loads t (IsCellOf x.member.array.geometry) gathered was read None x z → (answer : Result (Unit {0}) Refusal)
     → IsLoaded x.member.array.geometry t gathered.erased read into answer → (why : Refusal) → answer ≡ Err why → Unloaded t why x z
 lost t gathered was read into x z loads (Ok done) is why same = absurd (cc)
@@ -101,7 +101,7 @@ lost t gathered was read into x z loads (Err found) is why same =
       each = erased_for t (IsCellOf x.member.array.geometry) gathered was read None x z loads refl;
     })
 
-pub loaded_refused : (t : ℕ) (into : Stripe) (answer : Result (Unit {0}) Refusal) (x z : Point) → LoadsStripe t into answer x z → (why : Refusal)
+pub loaded_refused : (t : ℕ) (into : Stripe) (answer : Result (Unit {0}) Refusal) (x z : Snapshot) → LoadsStripe t into answer x z → (why : Refusal)
     → answer ≡ Err why → Unloaded t why x z
 loaded_refused t into _ _ _ (LoadsStripe.Loaded was read gathered answer x z loads is) why same =
     lost t gathered was read into x z loads answer is why same
@@ -111,7 +111,7 @@ loaded_refused t into _ _ _ (LoadsStripe.Stops was read gathered fault x z loads
 
 -- AFTER WHAT WENT BEFORE
 
-module _ (x y z : Point) (first : IsPart 0 x y) (second : IsPart 0 y z) where
+module _ (x y z : Snapshot) (first : IsPart 0 x y) (second : IsPart 0 y z) where
   afterwards : (j : ℕ) → WasGoneTo y.member j y.told z.told → WasGoneTo x.member j x.told z.told
   afterwards j was =
       gone_to_wider x.member j x.told y.told z.told z.told first.after.later second.after.later (after_none z.told)

@@ -12,7 +12,7 @@ use Rattle.stair_rack.specs.History as history
 use Rattle.stair_rack.specs.Media.{Image}
 use Rattle.stair_rack.specs.Moments.{AtEveryMoment}
 use Rattle.stair_rack.specs.Offline.{IsAttached, IsOfflineUntilAttached}
-use Rattle.stair_rack.specs.Telling.{Telling}
+use Rattle.stair_rack.specs.RackState.{RackState}
 use Rattle.stair_rack.proofs.MomentLemmas.{ran_weakened}
 use Rattle.stair_rack.proofs.OfflineLemmas.{stopped_on}
 use Rattle.stair_member.specs.Membership.{IsHere, Membership}
@@ -22,17 +22,17 @@ use Rattle.stair_stripes.specs.declared.gathering.Gathered.{Gathered}
 use Rattle.stair_state.specs.Blocks.{Codewords}
 use Rattle.stair_state.specs.Redoing.{AttachesNone}
 use Rattle.stair_state.specs.State.{Content, Change}
-use Rattle.stair_session.specs.Courses.{LeavesOut, NoneWas, Point, point}
-use Rattle.stair_session.specs.Leading.{led_to}
-use Rattle.stair_session.specs.Opening.{StaysArray}
-use Rattle.stair_session.specs.Rebuilding.{Rebuild}
-use Rattle.stair_session.specs.Returning.{Returning, StandsFor, StandsForAlone}
-use Rattle.stair_session.specs.Session.{ArrayState, IsLiveIn, seats_in, IsArray}
-use Rattle.stair_session.proofs.BesideLemmas.{attached_on}
-use Rattle.stair_session.proofs.OpenWithLemmas.{amid_of}
-use Rattle.stair_session.proofs.OwnPartLemmas.{stays_live}
-use Rattle.stair_session.proofs.Serving.{IsCalmTo, IsGoing, IsServing, LeadsReads, StandsAs, StandsIn}
-use Rattle.stair_session.proofs.StaysArrayLemmas.{drops_twice, left_stays}
+use Rattle.stair_invariant.specs.Effects.{FencesGone, NoneWas, Snapshot, snapshot}
+use Rattle.stair_invariant.specs.Leading.{led_to}
+use Rattle.stair_invariant.specs.Opening.{StaysArray}
+use Rattle.stair_invariant.specs.Rebuilding.{Rebuild}
+use Rattle.stair_invariant.specs.Returning.{Returning, StandsFor, StandsForAlone}
+use Rattle.stair_invariant.specs.Session.{ArrayState, IsLiveIn, seats_in, IsArray}
+use Rattle.stair_invariant.proofs.BesideLemmas.{attached_on}
+use Rattle.stair_invariant.proofs.OpenWithLemmas.{amid_of}
+use Rattle.stair_invariant.proofs.OwnPartLemmas.{stays_live}
+use Rattle.stair_invariant.proofs.Serving.{StaysWithinToleranceTo, IsGoing, IsServing, LeadsReads, StandsAs, StandsIn}
+use Rattle.stair_invariant.proofs.StaysArrayLemmas.{drops_twice, left_stays}
 use Rattle.stair_array.specs.Calls.{IsLoaded, LoadsStripe, refused}
 use Rattle.stair_array.specs.Machine.{IsFinal, Refusal}
 use Rattle.stair_array.proofs.GoneToLemmas.{attaches_none}
@@ -48,11 +48,11 @@ use Rattle.stair_array.proofs.ServingLemmas.{going_on}
 -- Slots that were gone to reads were to be left out by an array that served on, and that was refused. Each slot that was live at first and is
 -- attached in the end was live to it.
 pub record IsRefusedAt (returning : Returning) (before : List Happening) (words : Codewords) (kept : Content) (m : Membership) (fault : FenceFault)
-    (z : Point) : Type 0 where
+    (z : Snapshot) : Type 0 where
   pub array : ArrayState
-  pub mid : Telling
+  pub mid : RackState
   pub gone : Slots
-  pub leaves : LeavesOut gone (Some fault) (point array.member mid) z
+  pub leaves : FencesGone gone (Some fault) (snapshot array.member mid) z
   pub serves : IsServing returning before array words kept mid.history
   pub stays : StaysArray m array.member
   pub here : (j : ℕ) → HasSlot gone j → IsHere array.member j
@@ -95,8 +95,8 @@ serves_twice returning before a y z words kept h array first then stays is = rec
 
 -- within tolerance the rack represents the array then
 pub refused_stands : (returning : Returning) → LeadsReads returning → (before : List Happening) (words : Codewords) (kept : Content) (m : Membership)
-    (fault : FenceFault) (z : Point) → IsRefusedAt returning before words kept m fault z → IsTrue z.told.honest
-    → IsCalmTo returning m.array.geometry before z.told.history → StandsAs returning m kept None z.told.history
+    (fault : FenceFault) (z : Snapshot) → IsRefusedAt returning before words kept m fault z → IsTrue z.told.honest
+    → StaysWithinToleranceTo returning m.array.geometry before z.told.history → StandsAs returning m kept None z.told.history
 refused_stands returning laws before words kept m fault z at honest calm =
     stands_over returning m at.array.member kept None z.told.history at.stays
     (leaving_refused returning laws before at.array words kept at.gone (Some fault) at.mid z at.leaves honest at.serves at.here
@@ -104,30 +104,30 @@ refused_stands returning laws before words kept m fault z at honest calm =
     (calm_over returning at.array.member.array.geometry m.array.geometry before z.told.history at.stays.geometry calm))
 
 -- the array serves; it serves on, without slots that were gone
-abbrev pub Serves : Returning → List Happening → Option Rebuild → Option FenceFault → Codewords → Content → Point → List Happening → Type 0
+abbrev pub Serves : Returning → List Happening → Option Rebuild → Option FenceFault → Codewords → Content → Snapshot → List Happening → Type 0
 Serves returning before rebuild stopped words kept x h = IsServing returning before (array_with rebuild stopped x) words kept h
 
-abbrev pub ServesOn : Returning → List Happening → Option Rebuild → Option FenceFault → Codewords → Content → Point → Point → Type 0
+abbrev pub ServesOn : Returning → List Happening → Option Rebuild → Option FenceFault → Codewords → Content → Snapshot → Snapshot → Type 0
 ServesOn returning before rebuild stopped words kept x y =
     IsServing returning before (led_to (array_with rebuild stopped x) y.member) words kept y.told.history
 
 -- a slot that was live, and is attached still, is live still
-abbrev pub LiveStill : Point → Point → Type 0
+abbrev pub LiveStill : Snapshot → Snapshot → Type 0
 LiveStill x y = (j : ℕ) → IsLiveIn x.member j → IsAttached y.told.history j → IsLiveIn y.member j
 
 module _ (returning : Returning) (before : List Happening) (rebuild : Option Rebuild) (stopped : Option FenceFault) (words : Codewords)
     (kept : Content) where
   -- The array serves on, and this is so; or it serves on and is refused what isn't an epoch; or an epoch was refused.
-  pub data Comes (Right : Type 0) (x : Point) : Result (Unit {0}) Refusal → Point → Type 0 where
-    Has : (y : Point) → ServesOn returning before rebuild stopped words kept x y → StaysArray x.member y.member → LiveStill x y → Right
+  pub data Comes (Right : Type 0) (x : Snapshot) : Result (Unit {0}) Refusal → Snapshot → Type 0 where
+    Has : (y : Snapshot) → ServesOn returning before rebuild stopped words kept x y → StaysArray x.member y.member → LiveStill x y → Right
         → Comes Right x (Ok tt) y
-    Lacks : (refusal : Refusal) (y : Point) → ServesOn returning before rebuild stopped words kept x y → StaysArray x.member y.member
+    Lacks : (refusal : Refusal) (y : Snapshot) → ServesOn returning before rebuild stopped words kept x y → StaysArray x.member y.member
         → ¬ IsFinal refusal → Comes Right x (Err refusal) y
-    Stops : (fault : FenceFault) (y : Point) → IsRefusedAt returning before words kept x.member fault y → Comes Right x (Err (refused fault)) y
+    Stops : (fault : FenceFault) (y : Snapshot) → IsRefusedAt returning before words kept x.member fault y → Comes Right x (Err (refused fault)) y
 
   -- what follows from it is so then
-  pub comes_so : {Right Whole : Type 0} (x : Point) → (Right → Whole) → (answer : Result (Unit {0}) Refusal)
-      (y : Point) → Comes Right x answer y → Comes Whole x answer y
+  pub comes_so : {Right Whole : Type 0} (x : Snapshot) → (Right → Whole) → (answer : Result (Unit {0}) Refusal)
+      (y : Snapshot) → Comes Right x answer y → Comes Whole x answer y
   comes_so x so _ _ (Has y serves stays live right) = Has y serves stays live (so right)
   comes_so x so _ _ (Lacks refusal y serves stays not_final) = Lacks refusal y serves stays not_final
   comes_so x so _ _ (Stops fault y at) = Stops fault y at
@@ -135,7 +135,7 @@ module _ (returning : Returning) (before : List Happening) (rebuild : Option Reb
 module _ (returning : Returning) (laws : LeadsReads returning) (before : List Happening) (rebuild : Option Rebuild) (stopped : Option FenceFault)
     (words : Codewords) (kept : Content) where
   -- an array of which no slot was gone serves on
-  pub same_serves : (x y : Point) → y.member ≡ x.member → IsTrue y.told.honest → Serves returning before rebuild stopped words kept x y.told.history
+  pub same_serves : (x y : Snapshot) → y.member ≡ x.member → IsTrue y.told.honest → Serves returning before rebuild stopped words kept x y.told.history
       → IsGoing returning x.member.array.geometry before y.told.history → ServesOn returning before rebuild stopped words kept x y
   same_serves x y same honest is on =
       laws.left before (array_with rebuild stopped x) words kept no_slots y.told y is (NoneWas none alike refl) honest
@@ -144,22 +144,22 @@ module _ (returning : Returning) (laws : LeadsReads returning) (before : List Ha
       none : (j : ℕ) → ¬ HasSlot no_slots j
       none j has = absurd (true≢false (sym has ∙ has_slot-none j))
 
-      alike : y ≡ point x.member y.told
+      alike : y ≡ snapshot x.member y.told
       alike = λ i. record { member = same i; told = y.told }
 
-  pub same_stays : (x y : Point) → y.member ≡ x.member → Serves returning before rebuild stopped words kept x x.told.history
+  pub same_stays : (x y : Snapshot) → y.member ≡ x.member → Serves returning before rebuild stopped words kept x x.told.history
       → StaysArray x.member y.member
   same_stays x y same is =
-      left_stays no_slots None x (point y.member x.told)
+      left_stays no_slots None x (snapshot y.member x.told)
       (NoneWas (λ j has. absurd (true≢false (sym has ∙ has_slot-none j))) (λ i. record { member = same i; told = x.told }) refl)
       is.is_open.array.member
 
-  module _ (x : Point) (is : Serves returning before rebuild stopped words kept x x.told.history) where
+  module _ (x : Snapshot) (is : Serves returning before rebuild stopped words kept x x.told.history) where
     -- CELLS THAT WERE GATHERED
 
     module _ (t : ℕ) {wanted : ℕ → ℕ → Type 0} (gathered : Gathered) (read : Stripe) where
       -- over the slots that are left
-      pub load_serves : (z : Point) → HasLoaded t wanted gathered read None x z → IsTrue z.told.honest
+      pub load_serves : (z : Snapshot) → HasLoaded t wanted gathered read None x z → IsTrue z.told.honest
           → IsGoing returning x.member.array.geometry before z.told.history → ServesOn returning before rebuild stopped words kept x z
       load_serves z l honest on =
           laws.left before (array_with rebuild stopped x) words kept gathered.gone l.mid z
@@ -168,7 +168,7 @@ module _ (returning : Returning) (laws : LeadsReads returning) (before : List Ha
           l.leaves honest (gone_here returning laws before rebuild stopped words kept x is t gathered read None z l honest) on
 
       -- or the epoch without the others was refused
-      pub load_stops : (fault : FenceFault) (z : Point) → HasLoaded t wanted gathered read (Some fault) x z → IsTrue z.told.honest
+      pub load_stops : (fault : FenceFault) (z : Snapshot) → HasLoaded t wanted gathered read (Some fault) x z → IsTrue z.told.honest
           → IsGoing returning x.member.array.geometry before z.told.history → IsRefusedAt returning before words kept x.member fault z
       load_stops fault z l honest on = record {
         array = array_with rebuild stopped x;
@@ -185,7 +185,7 @@ module _ (returning : Returning) (laws : LeadsReads returning) (before : List Ha
       }
 
       -- a live slot that was gone isn't attached any more
-      pub load_live : (z : Point) → HasLoaded t wanted gathered read None x z → IsTrue z.told.honest
+      pub load_live : (z : Snapshot) → HasLoaded t wanted gathered read None x z → IsTrue z.told.honest
           → IsGoing returning x.member.array.geometry before z.told.history → LiveStill x z
       load_live z l honest on j live attached =
           stays_live gathered.gone before (array_with rebuild stopped x) None l.mid z j
@@ -211,7 +211,7 @@ module _ (returning : Returning) (laws : LeadsReads returning) (before : List Ha
               let was : IsAttached l.mid.history j =
               attached_on l.mid.history z.told.history j
               (ran_weakened {allowed = attaches_none} {more = AttachesNone (λ i. i ≡ j)} (λ i c may at. may)
-              ((out_after gathered.gone None (point x.member l.mid) z l.leaves).beside honest)) attached in
+              ((out_after gathered.gone None (snapshot x.member l.mid) z l.leaves).beside honest)) attached in
               true≢false (sym was ∙ off)
 
           stays_out : ¬ HasSlot gathered.gone j
@@ -219,8 +219,8 @@ module _ (returning : Returning) (laws : LeadsReads returning) (before : List Ha
 
     -- A STRIPE, after what was asked for
 
-    module _ (t : ℕ) (into : Stripe) (y : Point) (asked : HasAsked x y) where
-      pub stripe_moments : (answer : Result (Unit {0}) Refusal) (u z : Point) → LoadsStripe t into answer u z → u ≡ y → IsTrue z.told.honest
+    module _ (t : ℕ) (into : Stripe) (y : Snapshot) (asked : HasAsked x y) where
+      pub stripe_moments : (answer : Result (Unit {0}) Refusal) (u z : Snapshot) → LoadsStripe t into answer u z → u ≡ y → IsTrue z.told.honest
           → AtEveryMoment (StandsAt returning before x.member kept) x.told.history z.told.history
       stripe_moments _ _ _ (LoadsStripe.Loaded was read gathered answer u z loads given) at honest =
           loading_moments returning laws before rebuild stopped words kept x is t gathered read None z
@@ -230,7 +230,7 @@ module _ (returning : Returning) (laws : LeadsReads returning) (before : List Ha
           (whole_loaded t gathered was read (Some fault) x u z (subst (HasAsked x) (sym at) asked) loads) honest
 
       -- it was loaded as it is
-      pub stripe_comes : t < x.member.array.geometry.stripes → (answer : Result (Unit {0}) Refusal) (u z : Point) → LoadsStripe t into answer u z
+      pub stripe_comes : t < x.member.array.geometry.stripes → (answer : Result (Unit {0}) Refusal) (u z : Snapshot) → LoadsStripe t into answer u z
           → u ≡ y → IsTrue z.told.honest → IsGoing returning x.member.array.geometry before z.told.history
           → Comes returning before rebuild stopped words kept (into ≡ words t) x answer z
       stripe_comes stripe _ _ _ (LoadsStripe.Stops was read gathered fault u z loads) at honest on =

@@ -37,8 +37,8 @@ use Rattle.stair_array.specs.declared.look.Found.{Found}
 use Rattle.stair_array.specs.declared.look.Found.TheVariants as found
 use Rattle.stair_member.proofs.DecisionLemmas.{no_super}
 use Rattle.stair_member.proofs.SightLemmas.{both, place_cases}
-use Rattle.stair_rack.proofs.TellingLemmas.{attach_uses, gone_wider, honest_within, later_called, later_join, later_none, reading_wider, some_wider}
-use Rattle.stair_rack.specs.Telling.{IsLater, Telling, telling}
+use Rattle.stair_rack.proofs.RackStateLemmas.{attach_uses, gone_wider, honest_within, later_called, later_join, later_none, reading_wider, some_wider}
+use Rattle.stair_rack.specs.RackState.{IsLater, RackState, rack_state}
 use Rattle.stair_array.specs.Looking.{Finding, WasGone, WasSmall, Holds, HadSectors, IsBare, IsFound, IsLarge, IsRefused, IsSettled, Passed, cells_at}
 use Rattle.stair_state.specs.Represents.{IsLargeEnough}
 
@@ -92,7 +92,7 @@ call_no_attach {j = j} {c = c} beside called =
 
 -- LONGER STRETCHES
 
-module _ (old mid new later : Telling) (first : IsLater old mid) (same : mid.honest ≡ new.honest) (within : NoneFalls mid.bads new.bads mid.gones new.gones)
+module _ (old mid new later : RackState) (first : IsLater old mid) (same : mid.honest ≡ new.honest) (within : NoneFalls mid.bads new.bads mid.gones new.gones)
     (second : IsLater new later) where
   large_wider : (g : Geometry) (j : ℕ) → IsLarge g j mid new → IsLarge g j old later
   large_wider g j is below honest =
@@ -160,7 +160,7 @@ bad_now {old} {new} {j} {k} is called =
     ]
 
 -- of a place that was read and holds no superblock
-module _ {j k : ℕ} {place : PlaceProbe} {old new : Telling} (p : ProbesPlace j k place old new) (bare : place ≡ probe.Nothing)
+module _ {j k : ℕ} {place : PlaceProbe} {old new : RackState} (p : ProbesPlace j k place old new) (bare : place ≡ probe.Nothing)
     (is : IsTrue new.honest) where
   by_answer : (answer : Got) → Calls old.history new.history j (Read k answer) → IsWhatWasRead (place ≡ probe.Gone) answer new.history j k p.cell
       → (is_ready new.history j ≡ true) × ((s : Superblock) → ¬ HoldsSuper (content ((slot_state new.history j).sector k)) s)
@@ -205,7 +205,7 @@ nothing_here : (a b : PlaceProbe) → a ≡ probe.Nothing → b ≡ probe.Nothin
 nothing_here a b is is' (inl lost) = let never : probe.Nothing ≡ probe.Gone = sym is ∙ lost in absurd (cc)
 nothing_here a b is is' (inr lost) = let never : probe.Nothing ≡ probe.Gone = sym is' ∙ lost in absurd (cc)
 
-module _ {j : ℕ} {slot : SlotProbe} {old new : Telling} (probes : ProbesSlot j slot old new) where
+module _ {j : ℕ} {slot : SlotProbe} {old new : RackState} (probes : ProbesSlot j slot old new) where
   first_ran : IsTrue new.honest → Ran (IsReadOf j) old.history probes.between.history
   first_ran is = read_ran (probes.first.called (probes.second.later.honest ∙ is))
 
@@ -278,13 +278,13 @@ module _ {j : ℕ} {slot : SlotProbe} {old new : Telling} (probes : ProbesSlot j
 
 -- reads of a slot make a later moment
 pub later_read : (honest : Bool) (old new : List Happening) (bads bads' : ℕ) (gones gones' : ℕ → ℕ) (j : ℕ) → (IsTrue honest → Ran (IsReadOf j) old new)
-    → NoneFalls bads bads' gones gones' → IsLater (telling honest old bads gones) (telling honest new bads' gones')
+    → NoneFalls bads bads' gones gones' → IsLater (rack_state honest old bads gones) (rack_state honest new bads' gones')
 later_read honest old new bads bads' gones gones' j ran counts = record { counts = counts; honest = refl; ran = λ is. ran_any (ran is) }
 
 -- gone at its attach
 pub gone_attach : (g : Geometry) (honest : Bool) (old new : List Happening) (bads bads' : ℕ) (gones gones' : ℕ → ℕ) (j : ℕ)
     → (IsTrue honest → Calls old new j (Attach reply.Gone)) → Rose (gones j) (gones' j)
-    → IsFound g j (telling honest old bads gones) (telling honest new bads' gones') WasGone
+    → IsFound g j (rack_state honest old bads gones) (rack_state honest new bads' gones') WasGone
 gone_attach g honest old new bads bads' gones gones' j told rose = (
   rose,
   λ is.
@@ -294,9 +294,9 @@ gone_attach g honest old new bads bads' gones gones' j told rose = (
 
 -- After its attach: gone at a call of this stretch.
 pub gone_after : (g : Geometry) (honest : Bool) (old mid new : List Happening) (bads bads' bads'' : ℕ) (gones gones' gones'' : ℕ → ℕ) (j : ℕ)
-    → IsLater (telling honest old bads gones) (telling honest mid bads' gones')
-    → IsLater (telling honest mid bads' gones') (telling honest new bads'' gones'') → Rose (gones' j) (gones'' j)
-    → (IsTrue honest → IsOffline old new j) → IsFound g j (telling honest old bads gones) (telling honest new bads'' gones'') WasGone
+    → IsLater (rack_state honest old bads gones) (rack_state honest mid bads' gones')
+    → IsLater (rack_state honest mid bads' gones') (rack_state honest new bads'' gones'') → Rose (gones' j) (gones'' j)
+    → (IsTrue honest → IsOffline old new j) → IsFound g j (rack_state honest old bads gones) (rack_state honest new bads'' gones'') WasGone
 gone_after g honest old mid new bads bads' bads'' gones gones' gones'' j first second rose offline = (
   kept-Rose (gones j) (gones' j) (gones'' j) (first.counts.gone j).not_less (second.counts.gone j).not_less rose,
   λ is. at_end {a = any_call} {P = λ h. IsOffline old h j} (ran_join (first.ran is) (second.ran is)) (offline is),
@@ -342,7 +342,7 @@ module _ (old att : List Happening) (j : ℕ) (attached : Calls old att j (Attac
 -- WHAT IS FOUND
 
 -- What a search tells is a finding of the whole look.
-searched_as : (g : Geometry) (j : ℕ) (old mid new : Telling) (result : Found) → IsLater old mid → IsLater mid new
+searched_as : (g : Geometry) (j : ℕ) (old mid new : RackState) (result : Found) → IsLater old mid → IsLater mid new
     → (((slot : SlotProbe) × ProbesSlot j slot mid new × WasGoneToProbe slot) → IsFound g j old new WasGone) → IsLarge g j old new → IsSearched j mid new result → IsFoundAs g j old new result
 searched_as g j old mid new found.Gone first second gone large was = gone was
 searched_as g j old mid new (found.Small has) first second gone large was = absurd was
@@ -367,24 +367,24 @@ searched_as g j old mid new found.Super first second gone large was = (
 
 module _ (g : Geometry) (honest : Bool) (old att : List Happening) (bads bads' : ℕ) (gones gones' : ℕ → ℕ) (j : ℕ)
     (attached : IsTrue honest → Calls old att j (Attach reply.Done)) (counts : NoneFalls bads bads' gones gones') where
-  att_later : IsLater (telling honest old bads gones) (telling honest att bads' gones')
+  att_later : IsLater (rack_state honest old bads gones) (rack_state honest att bads' gones')
   att_later = later_called honest old att bads bads' gones gones' j (Attach reply.Done) attached counts
 
   -- a slot that isn't the array's
   pub found_other : (new : List Happening) (bads'' : ℕ) (gones'' : ℕ → ℕ) (result : Found) → g.n ≤ j → (IsTrue honest → Ran (IsReadOf j) att new)
-      → NoneFalls bads' bads'' gones' gones'' → IsSearched j (telling honest att bads' gones') (telling honest new bads'' gones'') result
-      → IsFoundAs g j (telling honest old bads gones) (telling honest new bads'' gones'') result
+      → NoneFalls bads' bads'' gones' gones'' → IsSearched j (rack_state honest att bads' gones') (rack_state honest new bads'' gones'') result
+      → IsFoundAs g j (rack_state honest old bads gones) (rack_state honest new bads'' gones'') result
   found_other new bads'' gones'' result past ran counts' was =
-      searched_as g j (telling honest old bads gones) (telling honest att bads' gones') (telling honest new bads'' gones'') result att_later
+      searched_as g j (rack_state honest old bads gones) (rack_state honest att bads' gones') (rack_state honest new bads'' gones'') result att_later
       (later_read honest att new bads' bads'' gones' gones'' j ran counts')
       (λ lost.
-      probe_gone lost.1 (telling honest old bads gones) (telling honest att bads' gones') att_later (later_none (telling honest att bads' gones')) attached
+      probe_gone lost.1 (rack_state honest old bads gones) (rack_state honest att bads' gones') att_later (later_none (rack_state honest att bads' gones')) attached
       lost.2) (λ below is. absurd (omega (arith, past, below))) was
 
   -- a slot of the array that is gone to its sync
   pub found_unsynced : (new : List Happening) (bads'' : ℕ) (gones'' : ℕ → ℕ) → (IsTrue honest → Calls att new j (Sync reply.Gone))
       → NoneFalls bads' bads'' gones' gones'' → Rose (gones' j) (gones'' j)
-      → IsFound g j (telling honest old bads gones) (telling honest new bads'' gones'') WasGone
+      → IsFound g j (rack_state honest old bads gones) (rack_state honest new bads'' gones'') WasGone
   found_unsynced new bads'' gones'' synced counts' rose =
       gone_after g honest old att new bads bads' bads'' gones gones' gones'' j att_later
       (later_called honest att new bads' bads'' gones' gones'' j (Sync reply.Gone) synced counts') rose
@@ -397,31 +397,31 @@ module _ (g : Geometry) (honest : Bool) (old att : List Happening) (bads bads' :
     syn_ran : IsTrue honest → Ran (IsNoAttach j) att syn
     syn_ran is = call_no_attach tt (synced is)
 
-    att_sec : IsLater (telling honest att bads' gones') (telling honest sec bads₂ gones₂)
+    att_sec : IsLater (rack_state honest att bads' gones') (rack_state honest sec bads₂ gones₂)
     att_sec =
         later_join (later_called honest att syn bads' bads₁ gones' gones₁ j (Sync reply.Done) synced counts₁)
         (later_called honest syn sec bads₁ bads₂ gones₁ gones₂ j (Sectors has) measured counts₂)
 
-    sec_later : IsLater (telling honest old bads gones) (telling honest sec bads₂ gones₂)
+    sec_later : IsLater (rack_state honest old bads gones) (rack_state honest sec bads₂ gones₂)
     sec_later = later_join att_later att_sec
 
-    pub found_small : has < sectors_needed g → IsFound g j (telling honest old bads gones) (telling honest sec bads₂ gones₂) (WasSmall has)
+    pub found_small : has < sectors_needed g → IsFound g j (rack_state honest old bads gones) (rack_state honest sec bads₂ gones₂) (WasSmall has)
     found_small small =
         (below, small, λ is. had_sectors old att j (attached is) has (syn_ran is) (measured is) (ran_none sec))
 
     pub found_own : (new : List Happening) (bads'' : ℕ) (gones'' : ℕ → ℕ) (result : Found) → sectors_needed g ≤ has
         → (IsTrue honest → Ran (IsReadOf j) sec new) → NoneFalls bads₂ bads'' gones₂ gones''
-        → IsSearched j (telling honest sec bads₂ gones₂) (telling honest new bads'' gones'') result
-        → IsFoundAs g j (telling honest old bads gones) (telling honest new bads'' gones'') result
+        → IsSearched j (rack_state honest sec bads₂ gones₂) (rack_state honest new bads'' gones'') result
+        → IsFoundAs g j (rack_state honest old bads gones) (rack_state honest new bads'' gones'') result
     found_own new bads'' gones'' result enough ran counts' was =
-        searched_as g j (telling honest old bads gones) (telling honest sec bads₂ gones₂) (telling honest new bads'' gones'') result sec_later
+        searched_as g j (rack_state honest old bads gones) (rack_state honest sec bads₂ gones₂) (rack_state honest new bads'' gones'') result sec_later
         (later_read honest sec new bads₂ bads'' gones₂ gones'' j ran counts')
         (λ lost.
-        probe_gone lost.1 (telling honest old bads gones) (telling honest att bads' gones') att_later att_sec attached lost.2)
+        probe_gone lost.1 (rack_state honest old bads gones) (rack_state honest att bads' gones') att_later att_sec attached lost.2)
         (λ within is. (has, enough, had_sectors old att j (attached is) has (syn_ran is) (measured is) (ran_any (ran is)))) was
 
     pub settled_own : (new : List Happening) (bads'' : ℕ) (gones'' : ℕ → ℕ) → (IsTrue honest → Ran (IsReadOf j) sec new)
-        → IsSettled g j (telling honest old bads gones) (telling honest new bads'' gones'')
+        → IsSettled g j (rack_state honest old bads gones) (rack_state honest new bads'' gones'')
     settled_own new bads'' gones'' ran within is =
         answered_wider {a = IsThis j (Attach reply.Done)} {b = any_call} (calls_ran (attached is))
         (ran_join (ran_any {allowed = IsThis j (Sectors has)} (calls_ran (measured is))) (ran_any {allowed = IsReadOf j} (ran is)))
@@ -443,7 +443,7 @@ pub taken_sooner : {g : Geometry} {j : ℕ} {old mid new : List Happening} → R
 taken_sooner ran t = record { taken = t.taken; history = t.history; before = ran_join ran t.before; since = t.since; in_use = t.in_use; large = t.large }
 
 -- The slots below this one passed.
-pub record LookedSoFar (g : Geometry) (i : ℕ) (old now : Telling) : Type 0 where
+pub record LookedSoFar (g : Geometry) (i : ℕ) (old now : RackState) : Type 0 where
   pub each : (j : ℕ) → j < i → Passed g j old now
   pub taken : IsTrue now.honest → (j : ℕ) → j < i → j < g.n → IsTaken g j old.history now.history
   pub ran : IsTrue now.honest → Ran IsLook old.history now.history
@@ -451,7 +451,7 @@ pub record LookedSoFar (g : Geometry) (i : ℕ) (old now : Telling) : Type 0 whe
   -- the rack has a history, once a slot was looked at
   pub began : IsTrue now.honest → ((i ≡ 0) × (now.history ≡ old.history)) ⊎ IsHistory old.history
 
-pub looked_none : (g : Geometry) (now : Telling) → LookedSoFar g 0 now now
+pub looked_none : (g : Geometry) (now : RackState) → LookedSoFar g 0 now now
 looked_none g now = record {
   each = λ j below. absurd (omega arith);
   taken = λ is j below. absurd (omega arith);
@@ -468,18 +468,18 @@ pub looks_unwritten : {old new : List Happening} → Ran IsLook old new → Noth
 looks_unwritten ran = none_written {allowed = IsLook} {slots = every_slot} (λ j c is on. is) ran
 
 module _ (g : Geometry) (i : ℕ) (honest : Bool) (old now next : List Happening) (bads bads' bads'' : ℕ) (gones gones' gones'' : ℕ → ℕ)
-    (so_far : LookedSoFar g i (telling honest old bads gones) (telling honest now bads' gones')) (ran : IsTrue honest → Ran (IsLookAt i) now next)
+    (so_far : LookedSoFar g i (rack_state honest old bads gones) (rack_state honest now bads' gones')) (ran : IsTrue honest → Ran (IsLookAt i) now next)
     (counts : NoneFalls bads' bads'' gones' gones'') where
-  so_far_later : IsLater (telling honest old bads gones) (telling honest now bads' gones')
+  so_far_later : IsLater (rack_state honest old bads gones) (rack_state honest now bads' gones')
   so_far_later = record { counts = so_far.counts; honest = refl; ran = λ is. ran_any {allowed = IsLook} (so_far.ran is) }
 
-  next_later : IsLater (telling honest now bads' gones') (telling honest next bads'' gones'')
+  next_later : IsLater (rack_state honest now bads' gones') (rack_state honest next bads'' gones'')
   next_later = record { counts = counts; honest = refl; ran = λ is. ran_any {allowed = IsLookAt i} (ran is) }
 
-  still_passed : (j : ℕ) → j < i → Passed g j (telling honest old bads gones) (telling honest next bads'' gones'')
+  still_passed : (j : ℕ) → j < i → Passed g j (rack_state honest old bads gones) (rack_state honest next bads'' gones'')
   still_passed j below =
-      passed_wider (telling honest old bads gones) (telling honest old bads gones) (telling honest now bads' gones') (telling honest next bads'' gones'')
-      (later_none (telling honest old bads gones)) refl so_far.counts next_later g j (so_far.each j below)
+      passed_wider (rack_state honest old bads gones) (rack_state honest old bads gones) (rack_state honest now bads' gones') (rack_state honest next bads'' gones'')
+      (later_none (rack_state honest old bads gones)) refl so_far.counts next_later g j (so_far.each j below)
 
   pub began_first : (IsTrue honest → IsHistory now) → IsTrue honest → IsHistory old
   began_first began is = elim (so_far.began is) [ inl first ↦ subst IsHistory first.1 (began is) | inr before ↦ before ]
@@ -487,14 +487,14 @@ module _ (g : Geometry) (i : ℕ) (honest : Bool) (old now next : List Happening
   ran_next : IsTrue honest → Ran IsLook old next
   ran_next is = ran_join (so_far.ran is) (look_any (ran is))
 
-  pub looked_more : (IsTrue honest → IsHistory now) → Passed g i (telling honest now bads' gones') (telling honest next bads'' gones'')
+  pub looked_more : (IsTrue honest → IsHistory now) → Passed g i (rack_state honest now bads' gones') (rack_state honest next bads'' gones'')
       → (IsTrue honest → i < g.n → IsTaken g i now next)
-      → LookedSoFar g (i + 1) (telling honest old bads gones) (telling honest next bads'' gones'')
+      → LookedSoFar g (i + 1) (rack_state honest old bads gones) (rack_state honest next bads'' gones'')
   looked_more began passed taken = record {
     each =
-        below_more (λ j. Passed g j (telling honest old bads gones) (telling honest next bads'' gones'')) i still_passed
-        (passed_wider (telling honest old bads gones) (telling honest now bads' gones') (telling honest next bads'' gones'')
-        (telling honest next bads'' gones'') so_far_later refl counts (later_none (telling honest next bads'' gones'')) g i passed);
+        below_more (λ j. Passed g j (rack_state honest old bads gones) (rack_state honest next bads'' gones'')) i still_passed
+        (passed_wider (rack_state honest old bads gones) (rack_state honest now bads' gones') (rack_state honest next bads'' gones'')
+        (rack_state honest next bads'' gones'') so_far_later refl counts (later_none (rack_state honest next bads'' gones'')) g i passed);
     taken = λ is.
         below_more (λ j. j < g.n → IsTaken g j old next) i
         (λ j below within. taken_on (so_far.taken is j below within) (look_elsewhere j (omega arith) (ran is)))
@@ -504,16 +504,16 @@ module _ (g : Geometry) (i : ℕ) (honest : Bool) (old now next : List Happening
     began = λ is. inr (began_first began is);
   }
 
-  pub refused_here : (fault : CreateFault) → i < 32 → IsRefusedAt g fault i (telling honest now bads' gones') (telling honest next bads'' gones'')
-      → IsRefused g fault (telling honest old bads gones) (telling honest next bads'' gones'')
+  pub refused_here : (fault : CreateFault) → i < 32 → IsRefusedAt g fault i (rack_state honest now bads' gones') (rack_state honest next bads'' gones'')
+      → IsRefused g fault (rack_state honest old bads gones) (rack_state honest next bads'' gones'')
   refused_here fault below was = record {
     slot = i;
     slot_in = below;
     before = still_passed;
     finding = was.finding;
     found =
-        found_wider (telling honest old bads gones) (telling honest now bads' gones') (telling honest next bads'' gones'')
-        (telling honest next bads'' gones'') so_far_later refl counts (later_none (telling honest next bads'' gones'')) g i was.finding was.found;
+        found_wider (rack_state honest old bads gones) (rack_state honest now bads' gones') (rack_state honest next bads'' gones'')
+        (rack_state honest next bads'' gones'') so_far_later refl counts (later_none (rack_state honest next bads'' gones'')) g i was.finding was.found;
     refused = was.refused;
     unwritten = λ is. looks_unwritten (ran_next is);
   }

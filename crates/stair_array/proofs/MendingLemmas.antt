@@ -9,7 +9,7 @@ use Rattle.stair_model.specs.Restoring.{IsRestored, SameHeld}
 use Rattle.stair_model.specs.Slots.{HasSlot, Slots}
 use Rattle.stair_model.specs.Stripe.{Stripe}
 use Rattle.stair_model.proofs.SetLaws.{cell_count_member}
-use Rattle.stair_rack.specs.Telling.{Telling}
+use Rattle.stair_rack.specs.RackState.{RackState}
 use Rattle.stair_member.specs.Establishing.{Stamps}
 use Rattle.stair_member.specs.Membership.{Membership}
 use Rattle.stair_member.specs.declared.fault.FenceFault.{FenceFault}
@@ -20,7 +20,7 @@ use Rattle.stair_journal.proofs.ReadGateLemmas.{cell_counted}
 use Rattle.stair_stripes.specs.Gathering.{Gathers, IsCellOf}
 use Rattle.stair_stripes.specs.declared.gathering.Gathered.{Gathered}
 use Rattle.stair_state.specs.Redoing.{AtRest}
-use Rattle.stair_session.specs.Courses.{AreLive, LeavesOut, Point, Redoes, point}
+use Rattle.stair_invariant.specs.Effects.{AreLive, FencesGone, Snapshot, Redoes, snapshot}
 use Rattle.stair_array.specs.Arrays.{outcome}
 use Rattle.stair_array.specs.Calls.{IsLoaded, answer_of}
 use Rattle.stair_array.specs.Faults.{array_fault, refusal_for}
@@ -118,16 +118,16 @@ slots_all cells on slots n inside so_far i j =
 
 -- stripe t was gathered, over the live slots of this member
 module _ (m : Membership) (g : Geometry) (same : g ≡ m.array.geometry) (live : Slots) (are : AreLive m live) (t : ℕ) (gathered : Gathered)
-    (was read : Stripe) (old mid : Telling) (gathers : Gathers g live t (IsCellOf g) gathered was read old mid) (y : Point)
+    (was read : Stripe) (old mid : RackState) (gathers : Gathers g live t (IsCellOf g) gathered was read old mid) (y : Snapshot)
     (below : t < m.array.geometry.stripes) where
   pub scrub_stops : (fault : FenceFault) (result : Result ℕ ArrayFault) → IsErrAnd result (λ e. e ≡ array_fault fault)
-      → LeavesOut gathered.gone (Some fault) (point m mid) y → Scrubs t (outcome result) (point m old) y
+      → FencesGone gathered.gone (Some fault) (snapshot m mid) y → Scrubs t (outcome result) (snapshot m old) y
   scrub_stops fault result is leaves =
-      subst (λ (a : Result ℕ Refusal). Scrubs t a (point m old) y) (sym (epoch_answer result fault is))
-      (Scrubs.Stops was read gathered fault (point m old) y below
+      subst (λ (a : Result ℕ Refusal). Scrubs t a (snapshot m old) y) (sym (epoch_answer result fault is))
+      (Scrubs.Stops was read gathered fault (snapshot m old) y below
       (loads m g same live are t gathered was read old mid gathers y (Some fault) leaves))
 
-  module _ (leaves : LeavesOut gathered.gone None (point m mid) y) (later : Slots) (are_later : AreLive y.member later) (cells : CellSet)
+  module _ (leaves : FencesGone gathered.gone None (snapshot m mid) y) (later : Slots) (are_later : AreLive y.member later) (cells : CellSet)
       (members : (i j : ℕ) → HasCell cells i j ↔ (HasCell gathered.erased i j × HasSlot later j)) where
     -- a redo of them, where there are some
     pub redo_of_them : IsCellSet cells → cell_count cells ≢ 0 → IsRedo m.array.geometry (record { stripe = t; cells = cells })
@@ -148,9 +148,9 @@ module _ (m : Membership) (g : Geometry) (same : g ≡ m.array.geometry) (live :
       λ one. (members i j).1 (one.0, (are_later.are j).1 one.1),
     )
 
-    pub scrub_sound : IsWithinLimits m.array.geometry → cell_count cells ≡ 0 → Scrubs t (Ok 0) (point m old) y
+    pub scrub_sound : IsWithinLimits m.array.geometry → cell_count cells ≡ 0 → Scrubs t (Ok 0) (snapshot m old) y
     scrub_sound limits none =
-        Scrubs.Sound was read gathered (point m old) y below
+        Scrubs.Sound was read gathered (snapshot m old) y below
         (loads m g same live are t gathered was read old mid gathers y None leaves)
         (λ i j erased live_then.
         let inside = gathers.wanted_erased i j erased in
@@ -164,19 +164,19 @@ module _ (m : Membership) (g : Geometry) (same : g ≡ m.array.geometry) (live :
     module _ (k : Geometry) (alike : k ≡ m.array.geometry) where
       pub scrub_lost : (into : Stripe) (counts : List ℕ) → (¬ IsCovered k gathered.erased)
           → ((j : ℕ) → j < 32 → slice_index counts j ≡ count_in_slot gathered.erased j)
-          → Scrubs t (Err (Lost t counts)) (point m old) y
+          → Scrubs t (Err (Lost t counts)) (snapshot m old) y
       scrub_lost into counts uncovered counted =
-          Scrubs.Unrestored was read into gathered (Lost t counts) (point m old) y below
+          Scrubs.Unrestored was read into gathered (Lost t counts) (snapshot m old) y below
           (loads m g same live are t gathered was read old mid gathers y None leaves)
           (subst (λ (s : Geometry). IsLoaded s t gathered.erased read into (Err (Lost t counts))) alike (uncovered, (counts, refl, counted)))
 
       pub scrub_writes : (kept into : Stripe) → kept ≡ read → IsCovered k gathered.erased → SameHeld k gathered.erased into kept
           → IsRestored k gathered.erased kept into → IsCellSet cells → cell_count cells ≢ 0 → (refusal : Option FenceFault)
-          (h : Geometry) → h ≡ m.array.geometry → (z : Point) → Redoes h (record { stripe = t; cells = cells }) into AtRest refusal y z
-          → Scrubs t (answer_of (cell_count cells) refusal) (point m old) z
+          (h : Geometry) → h ≡ m.array.geometry → (z : Snapshot) → Redoes h (record { stripe = t; cells = cells }) into AtRest refusal y z
+          → Scrubs t (answer_of (cell_count cells) refusal) (snapshot m old) z
       scrub_writes kept into as_read covered held restored formed some refusal h again z run =
           let redo : Redo = record { stripe = t; cells = cells } in
-          Scrubs.Rewrote was read into gathered redo refusal (point m old) y z below
+          Scrubs.Rewrote was read into gathered redo refusal (snapshot m old) y z below
           (loads m g same live are t gathered was read old mid gathers y None leaves)
           (subst (λ (s : Geometry). IsLoaded s t gathered.erased read into (Ok tt)) alike
           (subst (λ (s : Stripe). IsLoaded k t gathered.erased s into (Ok tt)) as_read (covered, held, restored)))
@@ -185,28 +185,28 @@ module _ (m : Membership) (g : Geometry) (same : g ≡ m.array.geometry) (live :
 
       pub scrub_refused : (kept into : Stripe) → kept ≡ read → IsCovered k gathered.erased → SameHeld k gathered.erased into kept
           → IsRestored k gathered.erased kept into → IsCellSet cells → cell_count cells ≢ 0 → (fault : FenceFault) (result : Result ℕ ArrayFault)
-          → IsErrAnd result (λ e. e ≡ array_fault fault) → (h : Geometry) → h ≡ m.array.geometry → (z : Point)
+          → IsErrAnd result (λ e. e ≡ array_fault fault) → (h : Geometry) → h ≡ m.array.geometry → (z : Snapshot)
           → Redoes h (record { stripe = t; cells = cells }) into AtRest (Some fault) y z
-          → Scrubs t (outcome result) (point m old) z
+          → Scrubs t (outcome result) (snapshot m old) z
       scrub_refused kept into as_read covered held restored formed some fault result is h again z run =
-          subst (λ (a : Result ℕ Refusal). Scrubs t a (point m old) z) (sym (epoch_answer result fault is))
+          subst (λ (a : Result ℕ Refusal). Scrubs t a (snapshot m old) z) (sym (epoch_answer result fault is))
           (scrub_writes kept into as_read covered held restored formed some (Some fault) h again z run)
 
 -- there is no such stripe
-pub scrub_past : (t asked limit : ℕ) (x : Point) → asked ≡ t → limit ≡ x.member.array.geometry.stripes → limit ≤ t
+pub scrub_past : (t asked limit : ℕ) (x : Snapshot) → asked ≡ t → limit ≡ x.member.array.geometry.stripes → limit ≤ t
     → Scrubs t (Err (OutOfRange asked limit)) x x
 scrub_past t asked limit x is_asked is_limit past =
     rw (is_asked, is_limit) (Scrubs.OutOf x (omega (arith, is_limit, past)))
 
 -- STAMPING
 
-module _ (frozen : Bool) (label : List ℕ) (m last : Membership) (old new : Telling) where
-  pub stamped : (fallen : Slots) → Stamps frozen label m last (Ok fallen) old new → StampsAs frozen label (Ok tt) (point m old) (point last new)
-  stamped fallen stamps = StampsAs.Stamped (Ok fallen) (point m old) (point last new) stamps
+module _ (frozen : Bool) (label : List ℕ) (m last : Membership) (old new : RackState) where
+  pub stamped : (fallen : Slots) → Stamps frozen label m last (Ok fallen) old new → StampsAs frozen label (Ok tt) (snapshot m old) (snapshot last new)
+  stamped fallen stamps = StampsAs.Stamped (Ok fallen) (snapshot m old) (snapshot last new) stamps
 
   pub stamp_refused : (fault : FenceFault) (kept : ArrayFault) → kept ≡ array_fault fault → Stamps frozen label m last (Err fault) old new
-      → StampsAs frozen label (Err (refusal_for kept)) (point m old) (point last new)
+      → StampsAs frozen label (Err (refusal_for kept)) (snapshot m old) (snapshot last new)
   stamp_refused fault kept same stamps =
-      subst (λ (r : Refusal). StampsAs frozen label (Err r) (point m old) (point last new))
+      subst (λ (r : Refusal). StampsAs frozen label (Err r) (snapshot m old) (snapshot last new))
       (sym (ap refusal_for same ∙ fault_refused fault))
-      (StampsAs.Stamped (Err fault) (point m old) (point last new) stamps)
+      (StampsAs.Stamped (Err fault) (snapshot m old) (snapshot last new) stamps)

@@ -13,7 +13,7 @@ use Rattle.stair_rack.specs.Offline.{IsHeld, IsOfflineUntilAttached}
 use Rattle.stair_rack.specs.Placed.{IsSlot}
 use Rattle.stair_rack.specs.Sector.{content}
 use Rattle.stair_rack.specs.Stretch.{NothingReturned}
-use Rattle.stair_rack.specs.Telling.{Telling}
+use Rattle.stair_rack.specs.RackState.{RackState}
 use Rattle.stair_rack.specs.declared.rack.Reply.TheVariants as reply
 use Rattle.stair_rack.proofs.MomentLemmas.{IsThis, at_some_wider, calls_ran, moment_between, moment_last, ran_any, ran_before, ran_join, ran_weakened}
 use Rattle.stair_rack.proofs.StretchLemmas.{each_after}
@@ -27,7 +27,7 @@ use Rattle.stair_member.specs.Fencing.{IsBegun, MayJoin}
 use Rattle.stair_member.specs.Membership.{IsHere, IsMissing, Membership, why_of}
 use Rattle.stair_member.specs.Seeing.{draw_in}
 use Rattle.stair_member.specs.Superblocks.{HoldsSuper}
-use Rattle.stair_member.specs.declared.aim.Aim.TheVariants.{Admit, Fence, Promote}
+use Rattle.stair_member.specs.declared.aim.EpochChange.TheVariants.{Admit, Fence, Promote}
 use Rattle.stair_member.specs.declared.fault.FenceFault.{FenceFault}
 use Rattle.stair_member.specs.declared.fault.FenceFault.TheVariants as fence
 use Rattle.stair_member.specs.declared.why.Why.{Why}
@@ -37,21 +37,21 @@ use Rattle.stair_state.specs.Blocks.{Codewords, AreEncodingsOf}
 use Rattle.stair_state.specs.Recovering.{IsShut}
 use Rattle.stair_state.specs.Redoing.{AttachesNone}
 use Rattle.stair_state.specs.State.{Content}
-use Rattle.stair_session.specs.Changing.{IsAttachedOrBare}
-use Rattle.stair_session.specs.InSession.{IsAimedContent, IsBehindPlaces, IsOfContent, IsReadyFor}
-use Rattle.stair_session.specs.Leading.{IsBesideArray, led_to}
-use Rattle.stair_session.specs.Returning.{NoneReturns}
-use Rattle.stair_session.specs.SeatSteps.{MayDrop, SeatsMove}
-use Rattle.stair_session.specs.Session.{ArrayState, IsRebuiltIn, seats_in}
-use Rattle.stair_session.proofs.Mending.{IsLookedAt, IsRebuiltWhole, LeadsAdmissions, LeadsBeside, LeadsPromotions, StandsAsMoved, StandsMoved, calm_going, epoch_content, looked_held, seen_by}
-use Rattle.stair_session.proofs.NotBegunLemmas.{by_fence}
-use Rattle.stair_session.proofs.OpenLaws.{in_session}
-use Rattle.stair_session.proofs.OpenWithLemmas.{beside_open}
-use Rattle.stair_session.proofs.OwnLaws.{attached_or_bare}
-use Rattle.stair_session.proofs.ReadyLemmas.{looked, ready_admit, ready_promote}
-use Rattle.stair_session.proofs.SawMoreLemmas.{saw_more}
-use Rattle.stair_session.proofs.Serving.{IsCalmTo, IsGoing, IsServing}
-use Rattle.stair_session.proofs.Stamping.{IsPlain, live_before}
+use Rattle.stair_invariant.specs.Changing.{IsAttachedOrBare}
+use Rattle.stair_invariant.specs.InSession.{IsAimedContent, IsBehindPlaces, IsOfContent, IsReadyFor}
+use Rattle.stair_invariant.specs.Leading.{IsBesideArray, led_to}
+use Rattle.stair_invariant.specs.Returning.{NoneReturns}
+use Rattle.stair_invariant.specs.SeatSteps.{MayDrop, SeatsMove}
+use Rattle.stair_invariant.specs.Session.{ArrayState, IsRebuiltIn, seats_in}
+use Rattle.stair_invariant.proofs.Mending.{IsLookedAt, IsRebuiltWhole, LeadsAdmissions, LeadsBeside, LeadsPromotions, StandsAsMoved, StandsMoved, calm_going, epoch_content, looked_held, seen_by}
+use Rattle.stair_invariant.proofs.NotBegunLemmas.{by_fence}
+use Rattle.stair_invariant.proofs.OpenLaws.{in_session}
+use Rattle.stair_invariant.proofs.OpenWithLemmas.{beside_open}
+use Rattle.stair_invariant.proofs.OwnLaws.{attached_or_bare}
+use Rattle.stair_invariant.proofs.ReadyLemmas.{looked, ready_admit, ready_promote}
+use Rattle.stair_invariant.proofs.SawMoreLemmas.{saw_more}
+use Rattle.stair_invariant.proofs.Serving.{StaysWithinToleranceTo, IsGoing, IsServing}
+use Rattle.stair_invariant.proofs.Stamping.{IsPlain, live_before}
 use Rattle.stair_array.proofs.EpochServingLemmas.{epoch_represents, epoch_serves, epoch_stands, never_few, not_raised}
 use Rattle.stair_array.proofs.PreparedLemmas.{held_below, read_below}
 use Rattle.stair_array.proofs.ServingLemmas.{going_sooner}
@@ -72,7 +72,7 @@ beside_leads = record {
 -- A PROMOTION
 
 module _ (before : List Happening) (a : ArrayState) (words : Codewords) (kept : Content) (j : ℕ) (last : Membership) (refusal : Option FenceFault)
-    (old new : Telling) (is : IsServing NoneReturns before a words kept old.history) (whole : IsRebuiltWhole a words old.history j)
+    (old new : RackState) (is : IsServing NoneReturns before a words kept old.history) (whole : IsRebuiltWhole a words old.history j)
     (e : Establishes (Promote j) a.member last refusal old new) (honest : IsTrue new.honest) where
   abbrev m : Membership
   m = a.member
@@ -87,7 +87,7 @@ module _ (before : List Happening) (a : ArrayState) (words : Codewords) (kept : 
   ready_going on =
       ready_promote m j words old.history (in_session before a words old.history is.is_open on.0 on.1 is.knows) here (λ attached. whole.serves)
 
-  ready : (c : List Happening) → IsMoment old.history c new.history → IsCalmTo NoneReturns m.array.geometry before c
+  ready : (c : List Happening) → IsMoment old.history c new.history → StaysWithinToleranceTo NoneReturns m.array.geometry before c
       → IsReadyFor (Promote j) m words old.history
   ready c at calm =
       let upto = ran_before {allowed = any_call} ran at in
@@ -101,7 +101,7 @@ module _ (before : List Happening) (a : ArrayState) (words : Codewords) (kept : 
   says : IsAimedContent (Promote j) m words kept None
   says = record { encodings = is.of.encodings; frozen = inl is.of.frozen; label = inl is.of.label }
 
-  promotion_moves : (c : List Happening) → IsMoment old.history c new.history → IsCalmTo NoneReturns m.array.geometry before c → (image : Image)
+  promotion_moves : (c : List Happening) → IsMoment old.history c new.history → StaysWithinToleranceTo NoneReturns m.array.geometry before c → (image : Image)
       → CrashMayLeave c image → StandsMoved NoneReturns (Promote j) e.gone m kept image
   promotion_moves c at calm image left =
       let found =
@@ -112,7 +112,7 @@ module _ (before : List Happening) (a : ArrayState) (words : Codewords) (kept : 
   end : IsMoment old.history new.history new.history
   end = moment_last ran.more ran.is
 
-  promotion_ends : IsCalmTo NoneReturns m.array.geometry before new.history → StandsAsMoved NoneReturns (Promote j) e.gone m kept new.history
+  promotion_ends : StaysWithinToleranceTo NoneReturns m.array.geometry before new.history → StandsAsMoved NoneReturns (Promote j) e.gone m kept new.history
   promotion_ends calm =
       let found =
       epoch_represents before a words kept None is.of (Promote j) says last refusal old new e honest is.is_open.ran (ready new.history end calm) it_only
@@ -127,7 +127,7 @@ module _ (before : List Happening) (a : ArrayState) (words : Codewords) (kept : 
       (λ i joins. absurd (let never : None ≡ Some i = joins in cc))
 
   -- not for want of slots, once it has begun an epoch
-  module _ (whys : AreAimed (Promote j) e.gone m last) (calm : IsCalmTo NoneReturns m.array.geometry before new.history) where
+  module _ (whys : AreAimed (Promote j) e.gone m last) (calm : StaysWithinToleranceTo NoneReturns m.array.geometry before new.history) where
     missed : IsMissing last j → IsOfflineUntilAttached before new.history j
     missed missing =
         elim (has_or_not e.gone j) [
@@ -161,9 +161,9 @@ module _ (before : List Happening) (a : ArrayState) (words : Codewords) (kept : 
         fault refused
 
 promotion_enough : (before : List Happening) (a : ArrayState) (words : Codewords) (kept : Content) (j : ℕ) (last : Membership) (few : List Why)
-    (old new : Telling) → IsServing NoneReturns before a words kept old.history → IsRebuiltWhole a words old.history j
+    (old new : RackState) → IsServing NoneReturns before a words kept old.history → IsRebuiltWhole a words old.history j
     → Establishes (Promote j) a.member last (Some (fence.TooFew few)) old new → IsTrue new.honest
-    → IsCalmTo NoneReturns a.member.array.geometry before new.history → ⊥
+    → StaysWithinToleranceTo NoneReturns a.member.array.geometry before new.history → ⊥
 promotion_enough before a words kept j last few old new is whole e honest calm = by e.began
   where
     plain : IsPlain Fence a.member words kept None
@@ -287,7 +287,7 @@ module _ (before : List Happening) (a : ArrayState) (words : Codewords) (kept : 
         (λ attached. subst (λ (c : Configuration). IsShut c.geometry old old slot) (sym l.sees.array) (l.shut attached))
 
 module _ (before : List Happening) (a : ArrayState) (words : Codewords) (kept : Content) (slot : ℕ) (seen last : Membership)
-    (refusal : Option FenceFault) (first : List Happening) (old new : Telling) (is : IsServing NoneReturns before a words kept first)
+    (refusal : Option FenceFault) (first : List Happening) (old new : RackState) (is : IsServing NoneReturns before a words kept first)
     (l : IsLookedAt a slot seen first old.history) (e : Establishes (Admit slot) seen last refusal old new) (honest : IsTrue new.honest) where
   admit_ran : Ran any_call old.history new.history
   admit_ran = ran_any {allowed = IsIssuing (e.issued honest).slots (e.issued honest).editions} (e.issued honest).ran
@@ -299,7 +299,7 @@ module _ (before : List Happening) (a : ArrayState) (words : Codewords) (kept : 
       → IsGoing NoneReturns a.member.array.geometry before old.history
   on_old c so_far on = going_sooner NoneReturns a.member.array.geometry before old.history c to_old so_far on
 
-  on_calm : (c : List Happening) → IsMoment old.history c new.history → IsCalmTo NoneReturns a.member.array.geometry before c
+  on_calm : (c : List Happening) → IsMoment old.history c new.history → StaysWithinToleranceTo NoneReturns a.member.array.geometry before c
       → IsGoing NoneReturns a.member.array.geometry before old.history
   on_calm c at calm =
       let so_far = ran_before {allowed = any_call} admit_ran at in
@@ -313,10 +313,10 @@ module _ (before : List Happening) (a : ArrayState) (words : Codewords) (kept : 
       let of = of_seen before a words kept slot seen first old.history is l in
       record { encodings = of.encodings; frozen = inl of.frozen; label = inl of.label }
 
-  calm_seen : (c : List Happening) → IsCalmTo NoneReturns a.member.array.geometry before c → IsCalmTo NoneReturns seen.array.geometry before c
-  calm_seen c calm = subst (λ (x : Configuration). IsCalmTo NoneReturns x.geometry before c) (sym l.sees.array) calm
+  calm_seen : (c : List Happening) → StaysWithinToleranceTo NoneReturns a.member.array.geometry before c → StaysWithinToleranceTo NoneReturns seen.array.geometry before c
+  calm_seen c calm = subst (λ (x : Configuration). StaysWithinToleranceTo NoneReturns x.geometry before c) (sym l.sees.array) calm
 
-  admission_moves : (c : List Happening) → IsMoment old.history c new.history → IsCalmTo NoneReturns a.member.array.geometry before c
+  admission_moves : (c : List Happening) → IsMoment old.history c new.history → StaysWithinToleranceTo NoneReturns a.member.array.geometry before c
       → (image : Image) → CrashMayLeave c image → StandsMoved NoneReturns (Admit slot) e.gone seen kept image
   admission_moves c at calm image left =
       let found =
@@ -339,7 +339,7 @@ module _ (before : List Happening) (a : ArrayState) (words : Codewords) (kept : 
       let at : slot ≡ i = cc in
       subst (IsHeld before old.history) at (looked_held before a slot seen first old.history is.is_open.ran l))
 
-  module _ (calm : IsCalmTo NoneReturns a.member.array.geometry before new.history) where
+  module _ (calm : StaysWithinToleranceTo NoneReturns a.member.array.geometry before new.history) where
     on_end : IsGoing NoneReturns a.member.array.geometry before old.history
     on_end = on_calm new.history admit_end calm
 

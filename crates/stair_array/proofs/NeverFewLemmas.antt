@@ -10,7 +10,7 @@ use Rattle.stair_rack.specs.History.{Happening, slot_state, stopped}
 use Rattle.stair_rack.specs.Media.{has_sector}
 use Rattle.stair_rack.specs.Offline.{IsAttached, IsOfflineUntilAttached}
 use Rattle.stair_rack.specs.Stretch.{NothingReturned}
-use Rattle.stair_rack.specs.Telling.{Telling}
+use Rattle.stair_rack.specs.RackState.{RackState}
 use Rattle.stair_rack.proofs.CrashLemmas.{CrashMayLeave-now}
 use Rattle.stair_rack.proofs.MomentLemmas.{moment_between, moment_last, ran_any, ran_join, ran_weakened}
 use Rattle.stair_rack.proofs.OfflineLemmas.{stopped_on}
@@ -31,35 +31,35 @@ use Rattle.stair_state.specs.State.{State}
 use Rattle.stair_state.specs.Tolerance.{IsTolerated, IsToleratedAlone}
 use Rattle.stair_state.proofs.DegradedLemmas.{degraded_same}
 use Rattle.stair_state.proofs.OutsideLemmas.{tolerated_alone}
-use Rattle.stair_session.specs.Courses.{Fenced, LeavesOut, NoneWas, Point, point}
-use Rattle.stair_session.specs.InSession.{IsBesideEpochs}
-use Rattle.stair_session.specs.Opening.{IsFoundFor, IsOpening, opened_with}
-use Rattle.stair_session.specs.Session.{IsLiveIn}
-use Rattle.stair_session.specs.UnderWay.{AreKept, IsUnderWay}
-use Rattle.stair_session.proofs.BesideLemmas.{attached_on, large_on}
-use Rattle.stair_session.proofs.CameLemmas.{left_by}
-use Rattle.stair_session.proofs.ChangingLemmas.{live_here}
-use Rattle.stair_session.proofs.FirstEpochLemmas.{first_fencing}
-use Rattle.stair_session.proofs.FirstFenceLemmas.{live_stays}
-use Rattle.stair_session.proofs.OpenLaws.{goes_on_within}
-use Rattle.stair_session.proofs.OpenWithLemmas.{beside_amid}
-use Rattle.stair_session.proofs.RedoingLemmas.{out_ran}
+use Rattle.stair_invariant.specs.Effects.{Fenced, FencesGone, NoneWas, Snapshot, snapshot}
+use Rattle.stair_invariant.specs.InSession.{IsBesideEpochs}
+use Rattle.stair_invariant.specs.Opening.{IsFoundFor, IsOpening, opened_with}
+use Rattle.stair_invariant.specs.Session.{IsLiveIn}
+use Rattle.stair_invariant.specs.UnderWay.{AreKept, IsUnderWay}
+use Rattle.stair_invariant.proofs.BesideLemmas.{attached_on, large_on}
+use Rattle.stair_invariant.proofs.CameLemmas.{left_by}
+use Rattle.stair_invariant.proofs.ChangingLemmas.{live_here}
+use Rattle.stair_invariant.proofs.FirstEpochLemmas.{first_fencing}
+use Rattle.stair_invariant.proofs.FirstFenceLemmas.{live_stays}
+use Rattle.stair_invariant.proofs.OpenLaws.{goes_on_within}
+use Rattle.stair_invariant.proofs.OpenWithLemmas.{beside_amid}
+use Rattle.stair_invariant.proofs.RedoingLemmas.{out_ran}
 use Rattle.stair_array.proofs.EnoughLemmas.{first_size, never_few}
 use Rattle.stair_array.proofs.RecoveredLemmas.{Calm, calm_now, fence_ran}
 
 -- within tolerance at a moment, and no medium has come back
-pub record IsCalmAt (g : Geometry) (before h : List Happening) : Type 0 where
+pub record StaysWithinToleranceAt (g : Geometry) (before h : List Happening) : Type 0 where
   pub none : NothingReturned before h
   pub tolerated : IsTolerated g before h
 
-pub calm_at : (s : State) (before h : List Happening) → Ran any_call before h → Calm s before h → IsCalmAt s.geometry before h
+pub calm_at : (s : State) (before h : List Happening) → Ran any_call before h → Calm s before h → StaysWithinToleranceAt s.geometry before h
 calm_at s before h ran calm = record { none = calm.1; tolerated = calm_now s before h ran calm }
 
 -- THE FIRST FENCE
 
-module _ (s : State) (before : List Happening) (x w : Point) (found : IsFoundFor s x.member before before x.told.history)
+module _ (s : State) (before : List Happening) (x w : Snapshot) (found : IsFoundFor s x.member before before x.told.history)
     (fault : FenceFault) (fences : Fences no_slots x.member w.member (Err fault) x.told w.told)
-    (honest : IsTrue w.told.honest) (calm : IsCalmAt s.geometry before w.told.history) where
+    (honest : IsTrue w.told.honest) (calm : StaysWithinToleranceAt s.geometry before w.told.history) where
   ran_fence : Ran any_call x.told.history w.told.history
   ran_fence = fence_ran x.member w.member (Err fault) x.told w.told fences honest
 
@@ -93,14 +93,14 @@ module _ (s : State) (before : List Happening) (x w : Point) (found : IsFoundFor
 
 -- A PART that is refused
 
-module _ (s : State) (before : List Happening) (a : Redoing) (stage : Stage) (start : List Happening) (x y : Point) (mid : Telling) (leaving : Slots)
-    (fault : FenceFault) (ran : Ran (IsBesideEpochs x.member) x.told.history mid.history) (leaves : LeavesOut leaving (Some fault) (point x.member mid) y)
+module _ (s : State) (before : List Happening) (a : Redoing) (stage : Stage) (start : List Happening) (x y : Snapshot) (mid : RackState) (leaving : Slots)
+    (fault : FenceFault) (ran : Ran (IsBesideEpochs x.member) x.told.history mid.history) (leaves : FencesGone leaving (Some fault) (snapshot x.member mid) y)
     (way : IsUnderWay a stage start x.member x.told.history) (lasting : IsOpening before x) (same : s.geometry ≡ x.member.array.geometry)
     (kept : (alone : IsToleratedAlone s.geometry (image_now y.told.history)) → AreKept s.geometry x.member.array alone.current.array)
     (off : (j : ℕ) → IsLiveIn x.member j → HasSlot leaving j → IsOfflineUntilAttached before mid.history j) (honest : IsTrue y.told.honest)
-    (calm : IsCalmAt s.geometry before y.told.history) where
+    (calm : StaysWithinToleranceAt s.geometry before y.told.history) where
   later : Ran any_call mid.history y.told.history
-  later = out_ran leaving (Some fault) (point x.member mid) y leaves honest
+  later = out_ran leaving (Some fault) (snapshot x.member mid) y leaves honest
 
   none_mid : NothingReturned before mid.history
   none_mid =
@@ -139,7 +139,7 @@ module _ (s : State) (before : List Happening) (a : Redoing) (stage : Stage) (st
   pub part_never : (whys : List Why) → ¬ (fault ≡ TooFew whys)
   part_never whys is = by leaves
     where
-      by : LeavesOut leaving (Some fault) (point x.member mid) y → ⊥
+      by : FencesGone leaving (Some fault) (snapshot x.member mid) y → ⊥
       by (NoneWas out stays fine) = absurd (cc)
       by (Fenced j has (Ok fallen) fine does) = absurd (cc)
       by (Fenced j has (Err refused) fine does) =

@@ -28,7 +28,7 @@ use Rattle.stair_journal.specs.declared.redo.Redo.{Redo}
 use Rattle.stair_array.specs.Created.{AreNewMedia, BearNoneOutside, IsNewArray, IsNewDevice, IsNewSlot, Kept, Other, first_configuration, first_super, in_slot}
 use Rattle.stair_state.specs.Degraded.{AreAllDamaged, AreDamagedCopies, Blank, IsDegraded, IsDegradedSlot, Stays, Taken}
 use Rattle.stair_state.specs.Forms.{Encodes, IdleOld, IsOpen, RepresentsBy}
-use Rattle.stair_state.specs.Holding.{Holders, IsBorneSince, IsConsistentBy, IsConsistentUnderReassembly, IsHolder}
+use Rattle.stair_state.specs.Holding.{CurrentMedia, IsBorneSince, IsConsistentBy, IsConsistentUnderReassembly, IsCurrentMedium}
 use Rattle.stair_state.specs.Reassembly.{Empty, InSlot, IsBorne, IsMediumOf, IsReassembledSlot, IsReassembly, Location, OneOf, Outside, Unwritten}
 use Rattle.stair_state.specs.Represents.{AreSteady, Encodings, HaveSeats, ImageRepresents, IsImageOf, IsLargeEnough, Left, Lesser, Represents, Shrinks}
 use Rattle.stair_state.specs.State.{created_state, first_seats}
@@ -358,8 +358,8 @@ media_in_slots g h image is left media j below = by_size (image j).size refl
         (media.each j InSlot (record { size = n; cell = (image j).cell }) below (some, refl))
 
 -- all media that were written hold their chunks
-abbrev pub first_holders : Geometry → Holders
-first_holders g j = Some (joined_in (first_configuration g) j)
+abbrev pub first_current_media : Geometry → CurrentMedia
+first_current_media g j = Some (joined_in (first_configuration g) j)
 
 module _ (g : Geometry) (image : Image) (limits : IsWithinLimits g) (id : length g.id ≡ 16) (media : AreNewMedia g image) where
   first_of : (j : ℕ) (place : Location) (medium : Medium) (s : Superblock) → IsMediumOf (image j) place medium → Bears g j medium.cell s
@@ -374,9 +374,9 @@ module _ (g : Geometry) (image : Image) (limits : IsWithinLimits g) (id : length
   since_array a borne = array_of borne.slot borne.place a borne.borne
 
   -- a holder is a new device
-  device : (to : Image) (j : ℕ) → IsReassembly image to → IsHolder g (first_holders g) j ((to j).cell) → IsNewDevice g j (to j)
-  device to j reassembly holder =
-      kept_device g j (to j) holder.super (reassembled_new g image to media reassembly j (bears_below g j ((to j).cell) holder.super holder.bears)) holder.bears
+  device : (to : Image) (j : ℕ) → IsReassembly image to → IsCurrentMedium g (first_current_media g) j ((to j).cell) → IsNewDevice g j (to j)
+  device to j reassembly current_medium =
+      kept_device g j (to j) current_medium.super (reassembled_new g image to media reassembly j (bears_below g j ((to j).cell) current_medium.super current_medium.bears)) current_medium.bears
 
   bears_super : (cell : ℕ → Cell) (j : ℕ) (x : Superblock) → IsSuperOf cell x → x.slot ≡ j → x.array.geometry ≡ g → Bears g j cell x
   bears_super cell j x (First holds rest) slot geometry =
@@ -391,7 +391,7 @@ module _ (g : Geometry) (image : Image) (limits : IsWithinLimits g) (id : length
       let both : Live ≡ Rebuilding = sym live ∙ marked in
       absurd (cc)
 
-  pub new_consistent_by : IsConsistentBy (created_state g) (zero_encodings g limits) (first_holders g) 1 image
+  pub new_consistent_by : IsConsistentBy (created_state g) (zero_encodings g limits) (first_current_media g) 1 image
   new_consistent_by = record {
     overtaken = λ i p a borne earlier.
         let begun : 1 ≤ a.array.epoch = borne.bears.holds.spells.block.rules.array.begun in absurd (omega arith);
@@ -399,14 +399,14 @@ module _ (g : Geometry) (image : Image) (limits : IsWithinLimits g) (id : length
       exceptions = no_slots;
       formed = refl;
       few = none_is_few g.m;
-      others = λ j below out joined holder p medium x is super slot geometry same first second i q t borne.
+      others = λ j below out joined current_medium p medium x is super slot geometry same first second i q t borne.
           let draw : x.draw ≡ 1 = ap (λ (y : Superblock). y.draw) (first_of j p medium x is (bears_super medium.cell j x super slot geometry)) in
           let epoch : t.array.epoch ≡ 1 = ap (λ (c : Configuration). c.epoch) (array_of i q t borne) in
           omega arith;
     };
     live = λ j a borne marked. ap (λ (c : Configuration). Some (joined_in c j)) (sym (since_array a borne));
-    rebuilt = λ j joined a borne marked holder.
-        let mine : Some joined ≡ Some (joined_at a j) = sym holder ∙ ap (λ (c : Configuration). Some (joined_in c j)) (sym (since_array a borne)) in cc;
+    rebuilt = λ j joined a borne marked current_medium.
+        let mine : Some joined ≡ Some (joined_at a j) = sym current_medium ∙ ap (λ (c : Configuration). Some (joined_in c j)) (sym (since_array a borne)) in cc;
     frozen = λ a borne. inl (ap (λ (c : Configuration). c.frozen) (since_array a borne));
     label = λ a borne. inl (ap (λ (c : Configuration). c.label) (since_array a borne));
     forms = λ to some reassembly have gate. record {
@@ -417,7 +417,7 @@ module _ (g : Geometry) (image : Image) (limits : IsWithinLimits g) (id : length
         body = λ j redo on open_with. absurd (device_shut g to j redo (device to j reassembly (have j on)) open_with);
       });
     };
-    full = λ to j reassembly holder. (device to j reassembly holder).full;
+    full = λ to j reassembly current_medium. (device to j reassembly current_medium).full;
     rebuilding = λ to j a b redo reassembly borne marked bears same open_with.
         not_rebuilding a j (since_array a borne) (bears_below g j ((to j).cell) b bears) marked;
     one_list = λ i j p q a b first second same. array_of i p a first ∙ sym (array_of j q b second);
@@ -429,7 +429,7 @@ module _ (g : Geometry) (image : Image) (limits : IsWithinLimits g) (id : length
 pub new_consistent : (g : Geometry) (h : List Happening) → IsWithinLimits g → length g.id ≡ 16 → IsHistory h
     → EachImage (AreNewMedia g) h → AreSteady g h → IsConsistentUnderReassembly (created_state g) h
 new_consistent g h limits id is media steady = record {
-  holders = first_holders g;
+  current_media = first_current_media g;
   since = 1;
   is = record {
     encodings = zero_encodings g limits;

@@ -11,7 +11,7 @@ use Rattle.stair_rack.specs.Media.{Image}
 use Rattle.stair_rack.specs.Moments.{IsMoment}
 use Rattle.stair_rack.specs.Offline.{IsAttached, IsOfflineUntilAttached}
 use Rattle.stair_rack.specs.Sector.{damaged}
-use Rattle.stair_rack.specs.Telling.{Telling}
+use Rattle.stair_rack.specs.RackState.{RackState}
 use Rattle.stair_rack.specs.declared.watcher.Event.{Event}
 use Rattle.stair_rack.proofs.CrashLemmas.{CrashMayLeave-now}
 use Rattle.stair_rack.proofs.MomentLemmas.{moment_between, moment_last, ran_any, ran_before, ran_join, ran_weakened}
@@ -35,26 +35,26 @@ use Rattle.stair_state.specs.State.{Content, State, Change, changed_if}
 use Rattle.stair_state.specs.Tolerance.{IsTolerated, IsToleratedAlone}
 use Rattle.stair_state.proofs.AloneLemmas.{left_stands}
 use Rattle.stair_state.proofs.OutsideLemmas.{tolerated_alone}
-use Rattle.stair_session.specs.Courses.{Point, point, Redoes}
-use Rattle.stair_session.specs.InSession.{IsInSession, state_with}
-use Rattle.stair_session.specs.Leading.{led_to, IsBesideArray}
-use Rattle.stair_session.specs.Opening.{Across, StaysArray}
-use Rattle.stair_session.specs.Returning.{NoneReturns}
-use Rattle.stair_session.specs.SeatSteps.{EachMayDrop}
-use Rattle.stair_session.specs.Session.{ArrayState, IsLiveIn, seats_in}
-use Rattle.stair_session.specs.UnderWay.{IsOfRedo}
-use Rattle.stair_session.proofs.AmidRedoLemmas.{redo_begins}
-use Rattle.stair_session.proofs.DoubtLemmas.{IsOfDoubt, doubt_stands}
-use Rattle.stair_session.proofs.FencesLemmas.{leaves_open}
-use Rattle.stair_session.proofs.LeavingOutImages as images
-use Rattle.stair_session.proofs.OpenLaws.{in_session}
-use Rattle.stair_session.proofs.OpenWithLemmas.{represents_open, beside_open}
-use Rattle.stair_session.proofs.RedoMoments as redo_moments
-use Rattle.stair_session.proofs.RedoingLemmas.{no_redo, resting, way_begins, redo_ran}
-use Rattle.stair_session.proofs.SeatLemmas.{listed_member, listed_super}
-use Rattle.stair_session.proofs.Serving.{IsCalmTo, IsGoing, IsServing, LeadsReads, LeadsRedos, LeadsTo, StandsAs, StandsIn, any_read, calm_sooner, read_beside, redoing_of, tolerated_now}
-use Rattle.stair_session.proofs.StaysArrayLemmas.{redo_stays, left_stays}
-use Rattle.stair_session.proofs.SteadyEndLemmas.{fence_steady}
+use Rattle.stair_invariant.specs.Effects.{Snapshot, snapshot, Redoes}
+use Rattle.stair_invariant.specs.InSession.{IsInSession, state_with}
+use Rattle.stair_invariant.specs.Leading.{led_to, IsBesideArray}
+use Rattle.stair_invariant.specs.Opening.{Across, StaysArray}
+use Rattle.stair_invariant.specs.Returning.{NoneReturns}
+use Rattle.stair_invariant.specs.SeatSteps.{EachMayDrop}
+use Rattle.stair_invariant.specs.Session.{ArrayState, IsLiveIn, seats_in}
+use Rattle.stair_invariant.specs.UnderWay.{IsOfRedo}
+use Rattle.stair_invariant.proofs.AmidRedoLemmas.{redo_begins}
+use Rattle.stair_invariant.proofs.DoubtLemmas.{IsOfDoubt, doubt_stands}
+use Rattle.stair_invariant.proofs.FencesLemmas.{leaves_open}
+use Rattle.stair_invariant.proofs.LeavingOutImages as images
+use Rattle.stair_invariant.proofs.OpenLaws.{in_session}
+use Rattle.stair_invariant.proofs.OpenWithLemmas.{represents_open, beside_open}
+use Rattle.stair_invariant.proofs.RedoMoments as redo_moments
+use Rattle.stair_invariant.proofs.RedoingLemmas.{no_redo, resting, way_begins, redo_ran}
+use Rattle.stair_invariant.proofs.SeatLemmas.{listed_member, listed_super}
+use Rattle.stair_invariant.proofs.Serving.{StaysWithinToleranceTo, IsGoing, IsServing, LeadsReads, LeadsRedos, LeadsTo, StandsAs, StandsIn, any_read, calm_sooner, read_beside, redoing_of, tolerated_now}
+use Rattle.stair_invariant.proofs.StaysArrayLemmas.{redo_stays, left_stays}
+use Rattle.stair_invariant.proofs.SteadyEndLemmas.{fence_steady}
 use Rattle.stair_array.specs.Machine.{Step, Recover, Answer}
 use Rattle.stair_array.specs.Promise.{Seen, Performs, IsInState}
 use Rattle.stair_array.proofs.CompleteLemmas.{redo_never}
@@ -67,14 +67,14 @@ use Rattle.stair_array.proofs.WriteRedoLemmas.{IsAmid, redo_serves, refused_afte
 -- A FENCE, by the member that some slots left, each of which takes part; a live one is offline
 
 module _ (before : List Happening) (a : ArrayState) (words : Codewords) (kept : Content) (leaving : Slots) (last : Membership)
-    (answer : Result Slots FenceFault) (old new : Telling) (does : Fences leaving a.member last answer old new)
+    (answer : Result Slots FenceFault) (old new : RackState) (does : Fences leaving a.member last answer old new)
     (honest : IsTrue new.honest) (is : IsServing NoneReturns before a words kept old.history) (here : (j : ℕ) → HasSlot leaving j → IsHere a.member j)
     (off : (j : ℕ) → HasSlot leaving j → IsLiveIn a.member j → IsOfflineUntilAttached before old.history j) where
   abbrev m : Membership
   m = a.member
 
   abbrev CalmTo : List Happening → Type 0
-  CalmTo = IsCalmTo NoneReturns a.member.array.geometry before
+  CalmTo = StaysWithinToleranceTo NoneReturns a.member.array.geometry before
 
   -- the state of the array with these seats in the place of its own
   abbrev pub with_seats : Configuration → State
@@ -217,7 +217,7 @@ reads_lead = record {
       record {
         is_open = then.0;
         history = then.1.history;
-        of = still_of a.member y.member words kept (left_stays gone None (point a.member old) y leaves is.is_open.array.member) is.of;
+        of = still_of a.member y.member words kept (left_stays gone None (snapshot a.member old) y leaves is.is_open.array.member) is.of;
         knows = then.1;
       };
   fencing = λ before a words kept gone last answer old new is does honest here off c at calm image left.
@@ -232,12 +232,12 @@ same_stays m rules = record { rules = rules; geometry = refl; frozen = refl; lab
 -- A REDO
 
 module _ (before : List Happening) (a : ArrayState) (words new : Codewords) (kept : Content) (change : Option Change) (redo : Redo) (stripe : Stripe)
-    (leads : LeadsTo a words new kept change redo stripe) (old : Telling) (is : IsServing NoneReturns before a words kept old.history) where
+    (leads : LeadsTo a words new kept change redo stripe) (old : RackState) (is : IsServing NoneReturns before a words kept old.history) where
   abbrev r : Redoing
   r = redoing_of a words new redo
 
-  abbrev here : Point
-  here = point a.member old
+  abbrev here : Snapshot
+  here = snapshot a.member old
 
   limits_of : IsWithinLimits a.member.array.geometry
   limits_of = leads.redoing.limits
@@ -245,7 +245,7 @@ module _ (before : List Happening) (a : ArrayState) (words new : Codewords) (kep
   rest_amid : IsAmid before r leads.redoing stripe leads.cells old.history AtRest a.rebuild a.stopped here
   rest_amid = record { amid = redo_begins r before (forgetting a) old.history (forgets_open before a words old.history is.is_open) refl; begun = is.knows }
 
-  redo_done : (z : Point) → Redoes a.member.array.geometry redo stripe AtRest None here z → IsTrue z.told.honest
+  redo_done : (z : Snapshot) → Redoes a.member.array.geometry redo stripe AtRest None here z → IsTrue z.told.honest
       → IsGoing NoneReturns a.member.array.geometry before z.told.history
       → IsServing NoneReturns before (led_to a z.member) new (changed_if change kept) z.told.history
   redo_done z run honest on =
@@ -280,9 +280,9 @@ module _ (before : List Happening) (a : ArrayState) (words new : Codewords) (kep
   of_change = record { geometry = refl; of = leads.becomes; between = Across refl refl; frozen = inl refl; label = inl refl }
 
   -- what a crash leaves at a moment of it
-  module _ (refusal : Option FenceFault) (z : Point) (run : Redoes a.member.array.geometry redo stripe AtRest refusal here z)
+  module _ (refusal : Option FenceFault) (z : Snapshot) (run : Redoes a.member.array.geometry redo stripe AtRest refusal here z)
       (honest : IsTrue z.told.honest) (c : List Happening) (at : IsMoment old.history c z.told.history)
-      (calm : IsCalmTo NoneReturns a.member.array.geometry before c) where
+      (calm : StaysWithinToleranceTo NoneReturns a.member.array.geometry before c) where
     so_far : Ran any_call old.history c
     so_far =
         ran_before {allowed = any_call} (redo_ran r leads.redoing stripe leads.cells old.history AtRest refusal here z run honest) at
@@ -319,8 +319,8 @@ module _ (before : List Happening) (a : ArrayState) (words new : Codewords) (kep
         record { array = alone.current.array; stands = stands.0; dropped = stands.1 }
 
   -- refused
-  redo_refused : (fault : FenceFault) (z : Point) → Redoes a.member.array.geometry redo stripe AtRest (Some fault) here z → IsTrue z.told.honest
-      → IsCalmTo NoneReturns a.member.array.geometry before z.told.history → StandsAs NoneReturns a.member kept change z.told.history
+  redo_refused : (fault : FenceFault) (z : Snapshot) → Redoes a.member.array.geometry redo stripe AtRest (Some fault) here z → IsTrue z.told.honest
+      → StaysWithinToleranceTo NoneReturns a.member.array.geometry before z.told.history → StandsAs NoneReturns a.member kept change z.told.history
   redo_refused fault z run honest calm = record {
     array = now.current.array;
     stands = seated a.member kept change before z.told.history limits_of history tolerated steady each;
@@ -359,8 +359,8 @@ module _ (before : List Happening) (a : ArrayState) (words new : Codewords) (kep
       now = now_alone a.member kept change before z.told.history limits_of history tolerated steady each
 
   -- not for want of slots
-  redo_enough : (whys : List Why) (z : Point) → Redoes a.member.array.geometry redo stripe AtRest (Some (fence.TooFew whys)) here z
-      → IsTrue z.told.honest → IsCalmTo NoneReturns a.member.array.geometry before z.told.history → ⊥
+  redo_enough : (whys : List Why) (z : Snapshot) → Redoes a.member.array.geometry redo stripe AtRest (Some (fence.TooFew whys)) here z
+      → IsTrue z.told.honest → StaysWithinToleranceTo NoneReturns a.member.array.geometry before z.told.history → ⊥
   redo_enough whys z run honest calm =
       redo_never doubted before a.member redo_words refl (record { frozen = inl leads.becomes.frozen; label = inl leads.becomes.label }) r
       old.history leads.redoing stripe leads.cells (Across refl refl) AtRest (Some (fence.TooFew whys)) here z run whys refl

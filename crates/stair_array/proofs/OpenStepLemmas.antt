@@ -9,20 +9,20 @@ use Rattle.stair_member.specs.declared.fault.FenceFault.{FenceFault}
 use Rattle.stair_member.specs.declared.fault.FenceFault.TheVariants as fence
 use Rattle.stair_state.specs.Blocks.{AreEncodingsOf, Codewords}
 use Rattle.stair_state.specs.State.{Content, State}
-use Rattle.stair_session.specs.InSession.{IsOfContent, state_with}
-use Rattle.stair_session.specs.Leading.{led_to}
-use Rattle.stair_session.specs.Opening.{StaysArray}
-use Rattle.stair_session.specs.Returning.{Returning, IsCalm, StandsFor, Knows}
-use Rattle.stair_session.specs.Session.{ArrayState, IsOpenWith, IsRememberedIn, Remembered}
-use Rattle.stair_session.proofs.Serving.{IsCalmTo, IsServing, IsGoing, LeadsReads}
+use Rattle.stair_invariant.specs.InSession.{IsOfContent, state_with}
+use Rattle.stair_invariant.specs.Leading.{led_to}
+use Rattle.stair_invariant.specs.Opening.{StaysArray}
+use Rattle.stair_invariant.specs.Returning.{Returning, StaysWithinTolerance, StandsFor, Knows}
+use Rattle.stair_invariant.specs.Session.{ArrayState, IsOpenWith, IsRememberedIn, Remembered}
+use Rattle.stair_invariant.proofs.Serving.{StaysWithinToleranceTo, IsServing, IsGoing, LeadsReads}
 use Rattle.stair_array.specs.Calls.{refused}
 use Rattle.stair_array.specs.Machine.{Answer, Recover, Step}
-use Rattle.stair_array.specs.Promise.{EndsIn, IsInState, IsOpenFor, Keeps, KeepsProgress, Opened, Performs, Seen, ServesState, Session, StartsFrom, is_open}
+use Rattle.stair_array.specs.Promise.{EndsIn, IsInState, IsOpenFor, Keeps, KeepsProgress, Opened, Performs, Seen, ServesState, Phase, StartsFrom, is_open}
 use Rattle.stair_array.proofs.LedOnLemmas.{led_open}
 
-pub calm_over : (returning : Returning) (g f : Geometry) (before h : List Happening) → g ≡ f → IsCalmTo returning f before h
-    → IsCalmTo returning g before h
-calm_over returning g f before h same = subst (λ (k : Geometry). IsCalmTo returning k before h) (sym same)
+pub calm_over : (returning : Returning) (g f : Geometry) (before h : List Happening) → g ≡ f → StaysWithinToleranceTo returning f before h
+    → StaysWithinToleranceTo returning g before h
+calm_over returning g f before h same = subst (λ (k : Geometry). StaysWithinToleranceTo returning k before h) (sym same)
 
 pub going_over : (returning : Returning) (g f : Geometry) (before h : List Happening) → g ≡ f → IsGoing returning f before h
     → IsGoing returning g before h
@@ -30,7 +30,7 @@ going_over returning g f before h same = subst (λ (k : Geometry). IsGoing retur
 
 -- what is calm to a state is calm to the array that is open for it
 pub calm_for : {returning : Returning} {before now : List Happening} {s : State} {was : ArrayState} → IsOpenFor returning before s was now
-    → (h : List Happening) → IsCalm returning s.geometry true before h → IsCalmTo returning was.member.array.geometry before h
+    → (h : List Happening) → StaysWithinTolerance returning s.geometry true before h → StaysWithinToleranceTo returning was.member.array.geometry before h
 calm_for {returning} {before} {now} {s} {was} begins h calm =
     calm_over returning was.member.array.geometry s.geometry before h begins.geometry calm
 
@@ -40,12 +40,12 @@ kept_fault T (fence.TooFew whys) kept keeps = subst IsSome (sym keeps.1) refl
 kept_fault T fence.EpochsSpent kept keeps = subst IsSome (sym keeps.1) refl
 
 -- the session has an array that wasn't stopped
-pub record IsOpened (is : ArrayState) (session : Session) : Type 0 where
+pub record IsOpened (is : ArrayState) (session : Phase) : Type 0 where
   pub is_open : session ≡ Opened is
   pub unstopped : is.stopped ≡ None
 
 -- as it has before any step but an opening
-pub opening_or_open : (step : Step) (was : ArrayState) (session : Session) → StartsFrom step was session
+pub opening_or_open : (step : Step) (was : ArrayState) (session : Phase) → StartsFrom step was session
     → (step ≡ Recover) ⊎ IsOpened was session
 opening_or_open Recover was session starts = inl refl
 opening_or_open step was (Opened a) starts = inr (record {
@@ -54,7 +54,7 @@ opening_or_open step was (Opened a) starts = inr (record {
 })
 opening_or_open step was _ starts = absurd starts
 
-pub starts_open : (step : Step) → ¬ (step ≡ Recover) → (was : ArrayState) (session : Session) → StartsFrom step was session → IsOpened was session
+pub starts_open : (step : Step) → ¬ (step ≡ Recover) → (was : ArrayState) (session : Phase) → StartsFrom step was session → IsOpened was session
 starts_open step other was session starts =
     elim (opening_or_open step was session starts) [
       | inl opening ↦ absurd (other opening)
@@ -90,7 +90,7 @@ module _ (returning : Returning) (laws : LeadsReads returning) (step : Step) (ot
 
   -- the array that it begins with is open, and wasn't stopped
   pub open_first : IsOpenFor returning before s p.was x.told.history
-  open_first = by (subst (λ (e : Session). ServesState returning before s e x.told) opens.is_open state.serves)
+  open_first = by (subst (λ (e : Phase). ServesState returning before s e x.told) opens.is_open state.serves)
     where
       by : ServesState returning before s (Opened p.was) x.told → IsOpenFor returning before s p.was x.told.history
       by (inl is) = is
@@ -131,11 +131,11 @@ module _ (returning : Returning) (laws : LeadsReads returning) (step : Step) (ot
   }
 
   -- what is calm to a state is calm to the array
-  pub calm_first : (h : List Happening) → IsCalm returning s.geometry (is_open x.session) before h
-      → IsCalmTo returning p.was.member.array.geometry before h
+  pub calm_first : (h : List Happening) → StaysWithinTolerance returning s.geometry (is_open x.session) before h
+      → StaysWithinToleranceTo returning p.was.member.array.geometry before h
   calm_first h calm =
       calm_over returning p.was.member.array.geometry s.geometry before h open_first.geometry
-      (subst (λ (e : Session). IsCalm returning s.geometry (is_open e) before h) opens.is_open calm)
+      (subst (λ (e : Phase). StaysWithinTolerance returning s.geometry (is_open e) before h) opens.is_open calm)
 
   -- the session goes on with the array that it ends with
   pub goes_on_as : y.session ≡ Opened p.is × Keeps answer p.is.stopped
@@ -148,14 +148,14 @@ module _ (returning : Returning) (laws : LeadsReads returning) (step : Step) (ot
   -- IN THE END it serves these stripes, or it was stopped
 
   pub serves_now : (words : Codewords) (content : Content) → p.is.member.array.geometry ≡ p.was.member.array.geometry
-      → IsServing returning before p.is words content y.told.history → IsRememberedIn words p.is.remembered → IsCalmTo returning p.was.member.array.geometry before y.told.history
+      → IsServing returning before p.is words content y.told.history → IsRememberedIn words p.is.remembered → StaysWithinToleranceTo returning p.was.member.array.geometry before y.told.history
       → IsInState returning before (state_with p.is.member content None p.is.member.array) y
   serves_now words content same is known calm = record {
     stands =
         laws.stands before p.is words content y.told.history is
         (calm_over returning p.is.member.array.geometry p.was.member.array.geometry before y.told.history same calm);
     serves =
-        subst (λ (e : Session). ServesState returning before (state_with p.is.member content None p.is.member.array) e y.told) (sym goes_on_as.0)
+        subst (λ (e : Phase). ServesState returning before (state_with p.is.member content None p.is.member.array) e y.told) (sym goes_on_as.0)
         (inl (record {
           words = words;
           encodings = is.of.encodings;
@@ -173,7 +173,7 @@ module _ (returning : Returning) (laws : LeadsReads returning) (step : Step) (ot
   pub serves_over : (words : Codewords) (content : Content) → p.is.member.array.geometry ≡ p.was.member.array.geometry
       → IsServing returning before (led_to p.was p.is.member) words content y.told.history → KeepsProgress p.was p.is
       → IsRememberedIn words p.is.remembered
-      → IsCalmTo returning p.was.member.array.geometry before y.told.history
+      → StaysWithinToleranceTo returning p.was.member.array.geometry before y.told.history
       → IsInState returning before (state_with p.is.member content None p.is.member.array) y
   serves_over words content same is progress =
       serves_now words content same
@@ -187,12 +187,12 @@ module _ (returning : Returning) (laws : LeadsReads returning) (step : Step) (ot
   pub serves_as : (words : Codewords) (content : Content) → StaysArray p.was.member p.is.member
       → IsServing returning before (led_to p.was p.is.member) words content y.told.history → KeepsProgress p.was p.is
       → IsRememberedIn words p.is.remembered
-      → IsCalmTo returning p.was.member.array.geometry before y.told.history
+      → StaysWithinToleranceTo returning p.was.member.array.geometry before y.told.history
       → IsInState returning before (state_with p.is.member content None p.is.member.array) y
   serves_as words content stays = serves_over words content stays.geometry
 
   pub stops_as : (now : State) → StandsFor returning now y.told.history → IsSome p.is.stopped → IsInState returning before now y
   stops_as now stands stopped = record {
     stands = stands;
-    serves = subst (λ (e : Session). ServesState returning before now e y.told) (sym goes_on_as.0) (inr stopped);
+    serves = subst (λ (e : Phase). ServesState returning before now e y.told) (sym goes_on_as.0) (inr stopped);
   }

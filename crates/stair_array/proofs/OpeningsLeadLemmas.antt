@@ -8,7 +8,7 @@ use Rattle.stair_rack.specs.History.{Happening, SlotCall, Attach, Sectors, Read,
 use Rattle.stair_rack.specs.Moments.{IsMoment}
 use Rattle.stair_rack.specs.Offline.{IsOffline}
 use Rattle.stair_rack.specs.Stretch.{IsNoWrite, every_slot}
-use Rattle.stair_rack.specs.Telling.{Telling}
+use Rattle.stair_rack.specs.RackState.{RackState}
 use Rattle.stair_rack.proofs.CrashLemmas.{CrashMayLeave-now}
 use Rattle.stair_rack.proofs.MomentLemmas.{at_moment, moment_first, moment_sooner, ran_any, ran_none}
 use Rattle.stair_rack.proofs.StretchLemmas.{each_none, none_written}
@@ -25,9 +25,9 @@ use Rattle.stair_state.specs.State.{State}
 use Rattle.stair_state.specs.Surveyed.{FindsArray}
 use Rattle.stair_state.specs.Tolerance.{IsWithinTolerance}
 use Rattle.stair_state.proofs.SurveyedLemmas.{finds_array}
-use Rattle.stair_session.specs.Courses.{Point}
-use Rattle.stair_session.specs.Returning.{NoneReturns}
-use Rattle.stair_session.specs.Session.{seats_in}
+use Rattle.stair_invariant.specs.Effects.{Snapshot}
+use Rattle.stair_invariant.specs.Returning.{NoneReturns}
+use Rattle.stair_invariant.specs.Session.{seats_in}
 use Rattle.stair_array.specs.Calls.{refused}
 use Rattle.stair_array.specs.Machine.{Refusal}
 use Rattle.stair_array.specs.Promise.{AreFound}
@@ -47,7 +47,7 @@ looks_write_none j (Write k bytes answer) may on = absurd may
 looks_write_none j (Sync answer) may on = tt
 
 -- those of the member that a survey found
-seats_found : (s : State) (first x : Telling) (m : Membership) (h : List Happening) → Surveys (Ok m) first x → IsTrue x.honest → Represents s first.history
+seats_found : (s : State) (first x : RackState) (m : Membership) (h : List Happening) → Surveys (Ok m) first x → IsTrue x.honest → Represents s first.history
     → Calm s first.history x.history → IsMoment first.history x.history h → AreFound NoneReturns first.history h s (seats_in m.array)
 seats_found s first x m h surveys honest stands calm at =
     elim (finds.named old.current new.current old.is_current new.is_current) [
@@ -90,10 +90,10 @@ seats_found s first x m h surveys honest stands calm at =
 -- WHAT IT COMES TO
 
 -- the survey's member is that of an array that was found
-was_surveyed : (s : State) (first : Telling) (u : Point) → IsSurveyedFor NoneReturns s first u → IsTrue u.told.honest → IsSurveyed s first.history u
+was_surveyed : (s : State) (first : RackState) (u : Snapshot) → IsSurveyedFor NoneReturns s first u → IsTrue u.told.honest → IsSurveyed s first.history u
 was_surveyed s first u is honest = surveyed s first u is.surveys is.rules is.stands honest
 
-comes_as : (s : State) (m : Membership) (before : List Happening) (answer : Result Geometry Refusal) (v : Point) → Outcome s m before answer v
+comes_as : (s : State) (m : Membership) (before : List Happening) (answer : Result Geometry Refusal) (v : Snapshot) → Outcome s m before answer v
     → ((whys : List Why) → ¬ (answer ≡ Err (refused (TooFew whys)))) → ComesTo NoneReturns s m before answer v
 comes_as s m before _ _ (Opens g y same is) never =
     comes.Opens g y same

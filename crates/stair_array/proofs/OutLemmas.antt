@@ -8,16 +8,16 @@ use Rattle.stair_model.specs.Slots.{HasSlot, IsSlotSet, Slots, has_slot, slot_co
 use Rattle.stair_model.specs.Sum.{sum_below}
 use Rattle.stair_model.proofs.CountLaws.{sum_below_longer, sum_below_more}
 use Rattle.stair_model.proofs.SetLaws.{slot_count-subset, slot_count_member, slot_count_more}
-use Rattle.stair_rack.specs.Telling.{Telling}
+use Rattle.stair_rack.specs.RackState.{RackState}
 use Rattle.stair_member.specs.Establishing.{Fences, refusal_of}
 use Rattle.stair_member.specs.Membership.{Membership, why_of}
 use Rattle.stair_member.specs.declared.fault.FenceFault.{FenceFault}
 use Rattle.stair_member.specs.declared.why.Why.TheVariants.{Gone, Here}
 use Rattle.stair_member.proofs.CountingLemmas.{has_or_not, slot_in_range, slots_by, slots_by-at, slots_by-formed}
 use Rattle.stair_member.proofs.JudgeLemmas.{IsSetBelow}
-use Rattle.stair_session.specs.Courses.{AreLive, Fenced, LeavesOut, NoneWas, Point, point}
-use Rattle.stair_session.specs.Session.{IsLiveIn}
-use Rattle.stair_session.proofs.LeftOutLemmas.{live_before, start_geometry}
+use Rattle.stair_invariant.specs.Effects.{AreLive, Fenced, FencesGone, NoneWas, Snapshot, snapshot}
+use Rattle.stair_invariant.specs.Session.{IsLiveIn}
+use Rattle.stair_invariant.proofs.LeftOutLemmas.{live_before, start_geometry}
 
 -- the slots below n that are live are all of them
 pub all_live : (m : Membership) (n : ℕ) (live : Slots) → n ≡ m.array.geometry.n → IsSlotSet live
@@ -55,18 +55,18 @@ pub handed_on : {A : Type 0} (result : Result A FenceFault) (fault : FenceFault)
 handed_on (Ok x) fault is = absurd is
 handed_on (Err e) fault same = ap Some same
 
-module _ (gone : Slots) (count : ℕ) (counted : count ≡ slot_count gone) (m last : Membership) (old new : Telling) where
-  pub none_leaves : count ≡ 0 → IsSlotSet gone → LeavesOut gone None (point m old) (point m old)
+module _ (gone : Slots) (count : ℕ) (counted : count ≡ slot_count gone) (m last : Membership) (old new : RackState) where
+  pub none_leaves : count ≡ 0 → IsSlotSet gone → FencesGone gone None (snapshot m old) (snapshot m old)
   none_leaves zero formed = NoneWas (counts_none gone count counted formed zero) refl refl
 
   pub some_leave : count ≢ 0 → (answer : Result Slots FenceFault) (refusal : Option FenceFault) → refusal ≡ refusal_of answer
-      → Fences gone m last answer old new → LeavesOut gone refusal (point m old) (point last new)
+      → Fences gone m last answer old new → FencesGone gone refusal (snapshot m old) (snapshot last new)
   some_leave some answer refusal same fences =
       let one = counts_some gone count counted some in
       Fenced one.0 one.2 answer same fences
 
 -- a fence leaves the geometry as it was
-pub fence_geometry : (leaving : Slots) (m last : Membership) (answer : Result Slots FenceFault) (old new : Telling)
+pub fence_geometry : (leaving : Slots) (m last : Membership) (answer : Result Slots FenceFault) (old new : RackState)
     → Fences leaving m last answer old new → last.array.geometry ≡ m.array.geometry
 fence_geometry leaving m last answer old new e = e.establishes.geometry ∙ start_geometry leaving m e.start e.leaves
 
@@ -98,7 +98,7 @@ fewer_counted fewer more x formed within has lacks =
     omega (arith, one, most)
 
 -- where these slots were left out and an epoch stands, a live slot was live before, and is none of them
-module _ (leaving : Slots) (m last : Membership) (answer : Result Slots FenceFault) (old new : Telling) (stands : None ≡ refusal_of answer)
+module _ (leaving : Slots) (m last : Membership) (answer : Result Slots FenceFault) (old new : RackState) (stands : None ≡ refusal_of answer)
     (e : Fences leaving m last answer old new) (j : ℕ) (live : IsLiveIn last j) where
   below_first : j < e.start.array.geometry.n
   below_first = subst (λ (g : Geometry). j < g.n) e.establishes.geometry live.below
@@ -119,17 +119,17 @@ module _ (leaving : Slots) (m last : Membership) (answer : Result Slots FenceFau
   fence_not : ¬ HasSlot leaving j
   fence_not has = let never : Here ≡ Gone = sym live_then ∙ e.leaves.left j has in cc
 
-module _ (gone : Slots) (x y : Point) (j : ℕ) where
-  pub left_live : LeavesOut gone None x y → IsLiveIn y.member j → IsLiveIn x.member j
-  left_live (NoneWas none same fine) live = subst (λ (p : Point). IsLiveIn p.member j) same live
+module _ (gone : Slots) (x y : Snapshot) (j : ℕ) where
+  pub left_live : FencesGone gone None x y → IsLiveIn y.member j → IsLiveIn x.member j
+  left_live (NoneWas none same fine) live = subst (λ (p : Snapshot). IsLiveIn p.member j) same live
   left_live (Fenced i has answer fine e) live = fence_live gone x.member y.member answer x.told y.told fine e j live
 
-  pub left_not : LeavesOut gone None x y → IsLiveIn y.member j → ¬ HasSlot gone j
+  pub left_not : FencesGone gone None x y → IsLiveIn y.member j → ¬ HasSlot gone j
   left_not (NoneWas none same fine) live has = none j has
   left_not (Fenced i some answer fine e) live has = fence_not gone x.member y.member answer x.told y.told fine e j live has
 
 -- so where a live slot was gone fewer are live
-pub fewer_live : (gone live later : Slots) (x y : Point) (j : ℕ) → LeavesOut gone None x y → AreLive x.member live → AreLive y.member later
+pub fewer_live : (gone live later : Slots) (x y : Snapshot) (j : ℕ) → FencesGone gone None x y → AreLive x.member live → AreLive y.member later
     → HasSlot gone j → HasSlot live j → slot_count later < slot_count live
 fewer_live gone live later x y j leaves are are_later was_gone was_live =
     fewer_counted later live j are.formed

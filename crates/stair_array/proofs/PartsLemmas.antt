@@ -9,9 +9,9 @@ use Rattle.stair_model.proofs.CountLaws.{sum_below_add, sum_below_le, sum_below_
 use Rattle.stair_model.proofs.SetLaws.{has_slot-none, unmarked}
 use Rattle.stair_rack.specs.History.{SlotCall}
 use Rattle.stair_rack.specs.Placed.{IsSlot}
-use Rattle.stair_rack.specs.Telling.{Telling}
+use Rattle.stair_rack.specs.RackState.{RackState}
 use Rattle.stair_rack.proofs.MomentLemmas.{ran_any, ran_weakened}
-use Rattle.stair_rack.proofs.TellingLemmas.{later_none}
+use Rattle.stair_rack.proofs.RackStateLemmas.{later_none}
 use Rattle.stair_super.specs.Superblock.{mark_in}
 use Rattle.stair_super.specs.declared.configuration.Configuration.{Configuration}
 use Rattle.stair_super.specs.declared.mark.Mark.TheVariants.{Down}
@@ -20,16 +20,16 @@ use Rattle.stair_member.specs.Editions.{Edition}
 use Rattle.stair_member.specs.Epochs.{IsIssuing}
 use Rattle.stair_member.specs.Establishing.{Did, Establishes, Fences, HasBegun, Leaves, NotYet, Stamps, refusal_of}
 use Rattle.stair_member.specs.Membership.{IsHere, IsMarkedFor, IsMembership, Membership, why_of}
-use Rattle.stair_member.specs.declared.aim.Aim.{Aim}
-use Rattle.stair_member.specs.declared.aim.Aim.TheVariants.{Fence, Stamp}
+use Rattle.stair_member.specs.declared.aim.EpochChange.{EpochChange}
+use Rattle.stair_member.specs.declared.aim.EpochChange.TheVariants.{Fence, Stamp}
 use Rattle.stair_member.specs.declared.fault.FenceFault.{FenceFault}
 use Rattle.stair_member.specs.declared.why.Why.{Why}
 use Rattle.stair_member.specs.declared.why.Why.TheVariants as why
 use Rattle.stair_member.proofs.CountingLemmas.{has_or_not}
-use Rattle.stair_session.specs.Courses.{Fenced, LeavesOut, NoneWas, Point, point}
-use Rattle.stair_session.specs.Session.{IsLiveIn}
-use Rattle.stair_session.proofs.EstablishingLemmas.{issuing_attaches}
-use Rattle.stair_session.proofs.LeftOutLemmas.{here_before, none_leave, start_geometry}
+use Rattle.stair_invariant.specs.Effects.{Fenced, FencesGone, NoneWas, Snapshot, snapshot}
+use Rattle.stair_invariant.specs.Session.{IsLiveIn}
+use Rattle.stair_invariant.proofs.EstablishingLemmas.{issuing_attaches}
+use Rattle.stair_invariant.proofs.LeftOutLemmas.{here_before, none_leave, start_geometry}
 use Rattle.stair_array.specs.Causes.{WasGoneTo}
 use Rattle.stair_array.specs.Draws.{weight, weights}
 use Rattle.stair_array.proofs.GoneToLemmas.{IsAfter, after_join, after_none, attaches_none, gone_to_by, gone_to_earlier, gone_to_wider}
@@ -38,19 +38,19 @@ use Rattle.stair_array.proofs.OutLemmas.{slot_counted}
 -- WHAT A PART DOES
 
 -- why a slot isn't here stays, or it was gone
-pub data WhyStays (x y : Point) (j : ℕ) : Type 0 where
+pub data WhyStays (x y : Snapshot) (j : ℕ) : Type 0 where
   Same : why_of y.member j ≡ why_of x.member j → WhyStays x y j
   Went : why_of y.member j ≡ why.Gone → WasGoneTo x.member j x.told y.told → WhyStays x y j
 
 -- its mark stays, or goes to Down, since it wasn't here or was gone
-pub data MarkStays (x y : Point) (j : ℕ) : Type 0 where
+pub data MarkStays (x y : Snapshot) (j : ℕ) : Type 0 where
   Same : mark_in y.member.array j ≡ mark_in x.member.array j → MarkStays x y j
   WasAway : why_of x.member j ≢ why.Here → why_of x.member j ≢ why.Rebuilding → mark_in y.member.array j ≡ Down
       → MarkStays x y j
   Went : WasGoneTo x.member j x.told y.told → mark_in y.member.array j ≡ Down → MarkStays x y j
 
 -- From x to y slots may have been gone and dropped, and the draws and the weights rose together by no more than this.
-pub record IsPart (more : ℕ) (x y : Point) : Type 0 where
+pub record IsPart (more : ℕ) (x y : Snapshot) : Type 0 where
   pub after : IsAfter x.told y.told
   pub rules : IsMembership y.member
   pub geometry : y.member.array.geometry ≡ x.member.array.geometry
@@ -61,7 +61,7 @@ pub record IsPart (more : ℕ) (x y : Point) : Type 0 where
 
 -- PARTS IN TURN
 
-module _ (more : ℕ) (x y : Point) (p : IsPart more x y) where
+module _ (more : ℕ) (x y : Snapshot) (p : IsPart more x y) where
   below_back : (j : ℕ) → j < y.member.array.geometry.n → j < x.member.array.geometry.n
   below_back j below = subst (λ (g : Geometry). j < g.n) p.geometry below
 
@@ -85,7 +85,7 @@ module _ (more : ℕ) (x y : Point) (p : IsPart more x y) where
   pub live_back : (j : ℕ) → IsLiveIn y.member j → IsLiveIn x.member j
   live_back j live = live_by j (p.whys j (below_back j live.below)) live
 
-pub part_none : (x : Point) → IsMembership x.member → IsPart 0 x x
+pub part_none : (x : Snapshot) → IsMembership x.member → IsPart 0 x x
 part_none x rules = record {
   after = after_none x.told;
   rules = rules;
@@ -97,7 +97,7 @@ part_none x rules = record {
 }
 
 -- where nothing was known to change but what the rack tells
-pub part_told : (m : Membership) (old new : Telling) → IsMembership m → IsAfter old new → IsPart 0 (point m old) (point m new)
+pub part_told : (m : Membership) (old new : RackState) → IsMembership m → IsAfter old new → IsPart 0 (snapshot m old) (snapshot m new)
 part_told m old new rules after = record {
   after = after;
   rules = rules;
@@ -108,7 +108,7 @@ part_told m old new rules after = record {
   draws = omega arith;
 }
 
-module _ (a b : ℕ) (x y z : Point) (first : IsPart a x y) (second : IsPart b y z) where
+module _ (a b : ℕ) (x y z : Snapshot) (first : IsPart a x y) (second : IsPart b y z) where
   sooner : (j : ℕ) → WasGoneTo x.member j x.told y.told → WasGoneTo x.member j x.told z.told
   sooner j = gone_to_wider x.member j x.told x.told y.told z.told (later_none x.told) first.after.later second.after
 
@@ -154,7 +154,7 @@ module _ (a b : ℕ) (x y z : Point) (first : IsPart a x y) (second : IsPart b y
 issuing_beside : (slots : Slots) (editions : List Edition) (j : ℕ) (c : SlotCall) → IsIssuing slots editions j c → attaches_none j c
 issuing_beside slots editions j c may = issuing_attaches slots editions (IsSlot j) j c may refl
 
-pub epoch_after : (aim : Aim) (m last : Membership) (refusal : Option FenceFault) (old new : Telling) → Establishes aim m last refusal old new
+pub epoch_after : (aim : EpochChange) (m last : Membership) (refusal : Option FenceFault) (old new : RackState) → Establishes aim m last refusal old new
     → IsAfter old new
 epoch_after aim m last refusal old new e = record {
   later = record {
@@ -168,7 +168,7 @@ epoch_after aim m last refusal old new e = record {
       ran_weakened {allowed = IsIssuing issued.slots issued.editions} {more = attaches_none} (issuing_beside issued.slots issued.editions) issued.ran;
 }
 
-pub fence_after : (leaving : Slots) (m last : Membership) (answer : Result Slots FenceFault) (old new : Telling)
+pub fence_after : (leaving : Slots) (m last : Membership) (answer : Result Slots FenceFault) (old new : RackState)
     → Fences leaving m last answer old new → IsAfter old new
 fence_after leaving m last answer old new e = epoch_after Fence e.start last (refusal_of answer) old new e.establishes
 
@@ -197,7 +197,7 @@ no_slot : (j : ℕ) → ¬ HasSlot no_slots j
 no_slot j has = true≢false (sym has ∙ has_slot-none j)
 
 -- an epoch draws once for each slot that was gone to it, and once more at most
-pub epoch_drawn : (aim : Aim) (m last : Membership) (refusal : Option FenceFault) (old new : Telling) → (e : Establishes aim m last refusal old new)
+pub epoch_drawn : (aim : EpochChange) (m last : Membership) (refusal : Option FenceFault) (old new : RackState) → (e : Establishes aim m last refusal old new)
     → (m.drawn + slot_count e.gone ≤ last.drawn) × (last.drawn ≤ m.drawn + slot_count e.gone + 1)
 epoch_drawn aim m last refusal old new e = by refusal refl
   where
@@ -206,8 +206,8 @@ epoch_drawn aim m last refusal old new e = by refusal refl
     by (Some fault) is = let at = (e.refused fault is).1 in (omega (arith, at), omega (arith, at))
 
 -- An epoch without slots that took part and were gone since `old`, which admits none and promotes none.
-module _ (aim : Aim) (as_was : (j : ℕ) (w : Why) → aimed aim j w ≡ w) (none : admitted aim ≡ None) (leaving : Slots) (m start last : Membership)
-    (leaves : Leaves leaving m start) (refusal : Option FenceFault) (old mid new : Telling) (e : Establishes aim start last refusal mid new)
+module _ (aim : EpochChange) (as_was : (j : ℕ) (w : Why) → aimed aim j w ≡ w) (none : admitted aim ≡ None) (leaving : Slots) (m start last : Membership)
+    (leaves : Leaves leaving m start) (refusal : Option FenceFault) (old mid new : RackState) (e : Establishes aim start last refusal mid new)
     (rules : IsMembership m) (before : IsAfter old mid) (here : (j : ℕ) → HasSlot leaving j → IsHere m j)
     (gone : (j : ℕ) → HasSlot leaving j → WasGoneTo m j old mid) where
   after : IsAfter mid new
@@ -246,7 +246,7 @@ module _ (aim : Aim) (as_was : (j : ℕ) (w : Why) → aimed aim j w ≡ w) (non
       by (NotYet same whys) = whys j (start_n j below) out
       by (Did above named whys) = whys j (start_n j below) out ∙ as_was j (why_of start j)
 
-  epoch_whys : (j : ℕ) → j < m.array.geometry.n → WhyStays (point m old) (point last new) j
+  epoch_whys : (j : ℕ) → j < m.array.geometry.n → WhyStays (snapshot m old) (snapshot last new) j
   epoch_whys j below =
       elim (has_or_not e.gone j) [
         | inl dropped ↦ WhyStays.Went (e.were_gone.dropped j dropped) (gone_within j dropped)
@@ -259,15 +259,15 @@ module _ (aim : Aim) (as_was : (j : ℕ) (w : Why) → aimed aim j w ≡ w) (non
 
   -- marks
   mark_by : (j : ℕ) (w : Why) → why_of m j ≡ w → IsMarkedFor w (mark_in m.array j) → mark_in last.array j ≡ mark_for w
-      → MarkStays (point m old) (point last new) j
+      → MarkStays (snapshot m old) (snapshot last new) j
   mark_by j why.Here is marked named = MarkStays.Same (named ∙ sym marked)
   mark_by j why.Rebuilding is marked named = MarkStays.Same (named ∙ sym marked)
   mark_by j w is marked named = MarkStays.WasAway (λ live. cc) (λ rebuilt. cc) named
 
-  epoch_marks : (j : ℕ) → j < m.array.geometry.n → MarkStays (point m old) (point last new) j
+  epoch_marks : (j : ℕ) → j < m.array.geometry.n → MarkStays (snapshot m old) (snapshot last new) j
   epoch_marks j below = by e.began
     where
-      by : HasBegun aim e.gone start last → MarkStays (point m old) (point last new) j
+      by : HasBegun aim e.gone start last → MarkStays (snapshot m old) (snapshot last new) j
       by (NotYet same whys) = MarkStays.Same (ap (λ (c : Configuration). mark_in c j) (same ∙ leaves.array))
       by (Did above named whys) =
           elim (named.marks j (start_n j below)) [
@@ -334,7 +334,7 @@ module _ (aim : Aim) (as_was : (j : ℕ) (w : Why) → aimed aim j w ≡ w) (non
       (λ j. weight (why_of m j)) lighter in
       omega (arith, own, of_gone, of_leaving, two, three, all)
 
-  pub epoch_part : (more : ℕ) → 1 ≤ more + slot_count leaving → IsPart more (point m old) (point last new)
+  pub epoch_part : (more : ℕ) → 1 ≤ more + slot_count leaving → IsPart more (snapshot m old) (snapshot last new)
   epoch_part more room = record {
     after = after_join before after;
     rules = e.rules;
@@ -349,23 +349,23 @@ module _ (aim : Aim) (as_was : (j : ℕ) (w : Why) → aimed aim j w ≡ w) (non
         omega (arith, at, same, lighter_by, room);
   }
 
-pub fence_part : (leaving : Slots) (m last : Membership) (answer : Result Slots FenceFault) (old mid new : Telling)
+pub fence_part : (leaving : Slots) (m last : Membership) (answer : Result Slots FenceFault) (old mid new : RackState)
     → Fences leaving m last answer mid new → IsMembership m → IsAfter old mid → ((j : ℕ) → HasSlot leaving j → IsHere m j)
     → ((j : ℕ) → HasSlot leaving j → WasGoneTo m j old mid) → (more : ℕ) → 1 ≤ more + slot_count leaving
-    → IsPart more (point m old) (point last new)
+    → IsPart more (snapshot m old) (snapshot last new)
 fence_part leaving m last answer old mid new e rules before here gone more room =
     epoch_part Fence (λ j w. refl) refl leaving m e.start last e.leaves (refusal_of answer) old mid new e.establishes rules before here gone more room
 
 -- The first epoch of an opening draws once more than it has slots that it drops.
-pub first_part : (m last : Membership) (answer : Result Slots FenceFault) (old new : Telling) → Fences no_slots m last answer old new
-    → IsMembership m → IsPart 1 (point m old) (point last new)
+pub first_part : (m last : Membership) (answer : Result Slots FenceFault) (old new : RackState) → Fences no_slots m last answer old new
+    → IsMembership m → IsPart 1 (snapshot m old) (snapshot last new)
 first_part m last answer old new e rules =
     fence_part no_slots m last answer old old new e rules (after_none old) (λ j has. absurd (no_slot j has)) (λ j has. absurd (no_slot j has)) 1
     (omega arith)
 
 -- A frozen mark and a label are an epoch's own.
-pub stamp_part : (frozen : Bool) (label : List ℕ) (m last : Membership) (answer : Result Slots FenceFault) (old new : Telling)
-    → Stamps frozen label m last answer old new → IsMembership m → IsPart 1 (point m old) (point last new)
+pub stamp_part : (frozen : Bool) (label : List ℕ) (m last : Membership) (answer : Result Slots FenceFault) (old new : RackState)
+    → Stamps frozen label m last answer old new → IsMembership m → IsPart 1 (snapshot m old) (snapshot last new)
 stamp_part frozen label m last answer old new e rules =
     epoch_part (Stamp frozen label) (λ j w. refl) refl no_slots m m last (none_leave m) (refusal_of answer) old old new e.establishes rules
     (after_none old) (λ j has. absurd (no_slot j has)) (λ j has. absurd (no_slot j has)) 1 (omega arith)
@@ -373,15 +373,15 @@ stamp_part frozen label m last answer old new e rules =
 -- SLOTS THAT ARE LEFT OUT
 
 -- slots that took part and were gone since `old`
-pub out_part : (gone : Slots) (refusal : Option FenceFault) (m : Membership) (old mid : Telling) (y : Point) → IsMembership m → IsAfter old mid
+pub out_part : (gone : Slots) (refusal : Option FenceFault) (m : Membership) (old mid : RackState) (y : Snapshot) → IsMembership m → IsAfter old mid
     → IsSlotSet gone → ((j : ℕ) → HasSlot gone j → IsHere m j) → ((j : ℕ) → HasSlot gone j → WasGoneTo m j old mid)
-    → LeavesOut gone refusal (point m mid) y → IsPart 0 (point m old) y
+    → FencesGone gone refusal (snapshot m mid) y → IsPart 0 (snapshot m old) y
 out_part gone refusal m old mid y rules before formed here was (NoneWas none same fine) =
-    subst (λ (p : Point). IsPart 0 (point m old) p) (sym same) (part_told m old mid rules before)
+    subst (λ (p : Snapshot). IsPart 0 (snapshot m old) p) (sym same) (part_told m old mid rules before)
 out_part gone refusal m old mid y rules before formed here was (Fenced j has answer fine e) =
     let some : 0 < slot_count gone = slot_counted gone j formed has in
     fence_part gone m y.member answer old mid y.told e rules before here was 0 (omega (arith, some))
 
-pub out_after : (gone : Slots) (refusal : Option FenceFault) (x y : Point) → LeavesOut gone refusal x y → IsAfter x.told y.told
-out_after gone refusal x y (NoneWas none same fine) = subst (λ (p : Point). IsAfter x.told p.told) (sym same) (after_none x.told)
+pub out_after : (gone : Slots) (refusal : Option FenceFault) (x y : Snapshot) → FencesGone gone refusal x y → IsAfter x.told y.told
+out_after gone refusal x y (NoneWas none same fine) = subst (λ (p : Snapshot). IsAfter x.told p.told) (sym same) (after_none x.told)
 out_after gone refusal x y (Fenced j has answer fine e) = fence_after gone x.member y.member answer x.told y.told e

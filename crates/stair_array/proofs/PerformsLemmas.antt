@@ -5,8 +5,8 @@ use Rattle.stair_model.specs.Device.{body_sector}
 use Rattle.stair_model.specs.Geometry.{Geometry}
 use Rattle.stair_model.specs.Slots.{Slots, no_slots}
 use Rattle.stair_rack.specs.Sector.{Damaged}
-use Rattle.stair_rack.specs.Telling.{Telling}
-use Rattle.stair_rack.proofs.TellingLemmas.{later_none, reading_wider}
+use Rattle.stair_rack.specs.RackState.{RackState}
+use Rattle.stair_rack.proofs.RackStateLemmas.{later_none, reading_wider}
 use Rattle.stair_member.specs.Epochs.{IsRefusedBy}
 use Rattle.stair_member.specs.Membership.{IsMembership, Membership}
 use Rattle.stair_member.specs.declared.fault.FenceFault.{FenceFault}
@@ -15,9 +15,9 @@ use Rattle.stair_journal.specs.Gate.{closed_gate}
 use Rattle.stair_journal.specs.Journalling.{gate_writes}
 use Rattle.stair_journal.specs.Redo.{IsRedo}
 use Rattle.stair_journal.specs.declared.redo.Redo.{Redo}
-use Rattle.stair_session.specs.Courses.{Point, point}
-use Rattle.stair_session.specs.Session.{ArrayState, IsArray}
-use Rattle.stair_session.proofs.FindsLemmas.{live_here}
+use Rattle.stair_invariant.specs.Effects.{Snapshot, snapshot}
+use Rattle.stair_invariant.specs.Session.{ArrayState, IsArray}
+use Rattle.stair_invariant.proofs.FindsLemmas.{live_here}
 use Rattle.stair_array.specs.Calls.{answer_of, refused}
 use Rattle.stair_array.specs.Causes.{HasCause, IsAllowed, IsJournalLost, MarkGoesOn, MemberGoesOn}
 use Rattle.stair_array.specs.Events.{events_of}
@@ -33,7 +33,7 @@ use Rattle.stair_array.proofs.PartsLemmas.{IsPart, MarkStays, first_part, part_j
 
 -- ITS PARTS
 
-pub cleared_part : (found : Option Redo) (opened : Slots) (answer : Result Geometry Refusal) (x y : Point) → ClearsJournal found opened answer x y
+pub cleared_part : (found : Option Redo) (opened : Slots) (answer : Result Geometry Refusal) (x y : Snapshot) → ClearsJournal found opened answer x y
     → IsMembership x.member → IfSome found (IsRedo x.member.array.geometry) → IsPart 0 x y
 cleared_part _ _ _ _ _ (ClearsJournal.Closes opened live refusal x y are does) rules formed =
     stage_part (gate_writes closed_gate) live refusal x y does rules (live_here x.member live are) (gate_in_range x.member.array.geometry closed_gate)
@@ -47,11 +47,11 @@ cleared_part _ _ _ _ _ (ClearsJournal.Replayed redo opened body was stripe refus
     (replay_part redo stripe opened refusal y z run first.rules (subst (λ (g : Geometry). IsRedo g redo) (sym first.geometry) formed))
 
 -- the redo that the gates told is one of the member's array still
-still_formed : (found : Option Redo) (opened : Slots) (y z : Point) (first : IsPart 0 y z) → IfSome found (IsRedo y.member.array.geometry)
+still_formed : (found : Option Redo) (opened : Slots) (y z : Snapshot) (first : IsPart 0 y z) → IfSome found (IsRedo y.member.array.geometry)
     → IfSome found (IsRedo z.member.array.geometry)
 still_formed found opened y z first = subst (λ (g : Geometry). IfSome found (IsRedo g)) (sym first.geometry)
 
-pub recovered_part : (answer : Result Geometry Refusal) (x y : Point) → Recovers answer x y → IsMembership x.member → IsPart 1 x y
+pub recovered_part : (answer : Result Geometry Refusal) (x y : Snapshot) → Recovers answer x y → IsMembership x.member → IsPart 1 x y
 recovered_part _ _ _ (Recovers.NoEpoch fault x y e) rules = first_part x.member y.member (Err fault) x.told y.told e rules
 recovered_part _ _ _ (Recovers.Stops fallen opened redo fault x y z e found) rules =
     let first = first_part x.member y.member (Ok fallen) x.told y.told e rules in
@@ -65,7 +65,7 @@ recovered_part _ _ _ (Recovers.Goes fallen opened redo answer x y z w e found cl
 
 -- WHO IS LEFT OUT
 
-cleared_left_out : (found : Option Redo) (opened : Slots) (answer : Result Geometry Refusal) (x y : Point) → ClearsJournal found opened answer x y
+cleared_left_out : (found : Option Redo) (opened : Slots) (answer : Result Geometry Refusal) (x y : Snapshot) → ClearsJournal found opened answer x y
     → IsMembership x.member → IfSome found (IsRedo x.member.array.geometry) → IsTrue y.told.honest → IsLeftOut x y
 cleared_left_out _ _ _ _ _ (ClearsJournal.Closes opened live refusal x y are does) rules formed honest =
     stage_left_out (gate_writes closed_gate) live refusal x y does honest
@@ -81,7 +81,7 @@ cleared_left_out _ _ _ _ _ (ClearsJournal.Replayed redo opened body was stripe r
     (body_left_out redo body was stripe None x y found (honest_before y.told z.told second.after honest))
     (replay_left_out redo stripe opened refusal y z run first.rules still honest)
 
-pub recovered_left_out : (answer : Result Geometry Refusal) (x y : Point) → Recovers answer x y → IsMembership x.member → IsTrue y.told.honest
+pub recovered_left_out : (answer : Result Geometry Refusal) (x y : Snapshot) → Recovers answer x y → IsMembership x.member → IsTrue y.told.honest
     → IsLeftOut x y
 recovered_left_out _ _ _ (Recovers.NoEpoch fault x y e) rules honest =
     fence_left_out no_slots x.member y.member (Err fault) x.told y.told e honest
@@ -114,36 +114,36 @@ answered_ok : {T : Type 0} (given got : T) (refusal : Option FenceFault) → ans
 answered_ok given got None is = ((let same : got ≡ given = cc in same), refl)
 answered_ok given got (Some fault) is = absurd (cc)
 
-data IsRefusedFor (found : Option Redo) (refusal : Refusal) (x y : Point) : Type 0 where
+data IsRefusedFor (found : Option Redo) (refusal : Refusal) (x y : Snapshot) : Type 0 where
   ByEpoch : (fault : FenceFault) → refusal ≡ refused fault → IsRefusedBy y.member fault → IsRefusedFor found refusal x y
   ByBody : (redo : Redo) (sector : ℕ) → found ≡ Some redo → refusal ≡ JournalLost sector → ReadLost redo sector x y
       → IsRefusedFor found refusal x y
 
-cleared_refused : (found : Option Redo) (opened : Slots) (answer : Result Geometry Refusal) (x y : Point) → ClearsJournal found opened answer x y
+cleared_refused : (found : Option Redo) (opened : Slots) (answer : Result Geometry Refusal) (x y : Snapshot) → ClearsJournal found opened answer x y
     → (why : Refusal) → answer ≡ Err why → IsRefusedFor found why x y
 cleared_refused _ _ _ _ _ (ClearsJournal.Closes opened live refusal x y are does) why is =
     let by = answered_err x.member.array.geometry refusal why is in
-    ByEpoch by.0 by.2 (left_refused does.gone refusal (point x.member does.mid) y does.leaves by.0 by.1)
+    ByEpoch by.0 by.2 (left_refused does.gone refusal (snapshot x.member does.mid) y does.leaves by.0 by.1)
 cleared_refused _ _ _ _ _ (ClearsJournal.Stops redo opened body was stripe fault x y found) why is =
     ByEpoch fault (let same : why ≡ refused fault = cc in same)
-    (left_refused body.gone (Some fault) (point x.member found.mid) y found.leaves fault refl)
+    (left_refused body.gone (Some fault) (snapshot x.member found.mid) y found.leaves fault refl)
 cleared_refused _ _ _ _ _ (ClearsJournal.BodyLost redo opened body was stripe sector x y found lost) why is =
     ByBody redo sector refl (let same : why ≡ JournalLost sector = cc in same) (body_lost redo body was stripe x y found sector lost)
 cleared_refused _ _ _ _ _ (ClearsJournal.Replayed redo opened body was stripe refusal x y z found whole run) why is =
     let by = answered_err x.member.array.geometry refusal why is in
     ByEpoch by.0 by.2 (replay_refused redo stripe opened refusal y z run by.0 by.1)
 
-fault_cause : (fault : FenceFault) (was : ArrayState) (last : Membership) (x y : Telling) → IsRefusedBy last fault
+fault_cause : (fault : FenceFault) (was : ArrayState) (last : Membership) (x y : RackState) → IsRefusedBy last fault
     → HasCause Recover (refused fault) was last x y
 fault_cause (fence.TooFew whys) was last x y by = (tt, record { whys_are = by.0; many = by.1 })
 fault_cause fence.EpochsSpent was last x y by = (tt, record { spent = by.0; enough = by.1 })
 
-fault_caused : (why : Refusal) (fault : FenceFault) (was : ArrayState) (last : Membership) (x y : Telling) → why ≡ refused fault
+fault_caused : (why : Refusal) (fault : FenceFault) (was : ArrayState) (last : Membership) (x y : RackState) → why ≡ refused fault
     → IsRefusedBy last fault → HasCause Recover why was last x y
 fault_caused why fault was last x y same by = subst (λ (r : Refusal). HasCause Recover r was last x y) (sym same) (fault_cause fault was last x y by)
 
 -- a body that is lost is of a redo that a gate told
-journal_lost : (more : ℕ) (redo : Redo) (sector : ℕ) (x y z w : Point) → IsPart more x y → IsPart 0 y z → IsPart 0 z w → ReadOpen redo y z
+journal_lost : (more : ℕ) (redo : Redo) (sector : ℕ) (x y z w : Snapshot) → IsPart more x y → IsPart 0 y z → IsPart 0 z w → ReadOpen redo y z
     → ReadLost redo sector z w → IsJournalLost x.member w.member x.told w.told sector
 journal_lost more redo sector x y z w first second third told lost =
     let on = read_open_later more redo x y z w first second.after third.after told in
@@ -162,7 +162,7 @@ journal_lost more redo sector x y z w first second third told lost =
           (later_none w.told) j sector Damaged (lost.bad j live);
     }
 
-pub recovered_caused : (answer : Result Geometry Refusal) (x y : Point) → Recovers answer x y → IsMembership x.member → (why : Refusal)
+pub recovered_caused : (answer : Result Geometry Refusal) (x y : Snapshot) → Recovers answer x y → IsMembership x.member → (why : Refusal)
     → answer ≡ Err why → HasCause Recover why (unopened x.member) y.member x.told y.told
 recovered_caused _ _ _ (Recovers.NoEpoch fault x y e) rules why is =
     fault_caused why fault (unopened x.member) y.member x.told y.told (let same : why ≡ refused fault = cc in same) (e.establishes.refused fault refl).0
@@ -191,7 +191,7 @@ recovered_caused _ _ _ (Recovers.Goes fallen opened redo answer x y z w e found 
 
 -- WHAT IT ANSWERS
 
-cleared_answers : (found : Option Redo) (opened : Slots) (answer : Result Geometry Refusal) (x y : Point) → ClearsJournal found opened answer x y
+cleared_answers : (found : Option Redo) (opened : Slots) (answer : Result Geometry Refusal) (x y : Snapshot) → ClearsJournal found opened answer x y
     → (g : Geometry) → answer ≡ Ok g → g ≡ x.member.array.geometry
 cleared_answers _ _ _ _ _ (ClearsJournal.Closes opened live refusal x y are does) g is = (answered_ok x.member.array.geometry g refusal is).0
 cleared_answers _ _ _ _ _ (ClearsJournal.Stops redo opened body was stripe fault x y found) g is = absurd (cc)
@@ -199,7 +199,7 @@ cleared_answers _ _ _ _ _ (ClearsJournal.BodyLost redo opened body was stripe se
 cleared_answers _ _ _ _ _ (ClearsJournal.Replayed redo opened body was stripe refusal x y z found whole run) g is =
     (answered_ok x.member.array.geometry g refusal is).0
 
-pub recovered_answers : (answer : Result Geometry Refusal) (x y : Point) → Recovers answer x y → IsMembership x.member → (g : Geometry)
+pub recovered_answers : (answer : Result Geometry Refusal) (x y : Snapshot) → Recovers answer x y → IsMembership x.member → (g : Geometry)
     → answer ≡ Ok g → g ≡ x.member.array.geometry
 recovered_answers _ _ _ (Recovers.NoEpoch fault x y e) rules g is = absurd (cc)
 recovered_answers _ _ _ (Recovers.Stops fallen opened redo fault x y z e found) rules g is = absurd (cc)
@@ -219,18 +219,18 @@ pub goes_on : {T : Type 0} (given : T) (refusal : Option FenceFault) → ¬ Stop
 goes_on given None going = refl
 goes_on given (Some fault) going = absurd (going (final_refused fault))
 
-cleared_array : (found : Option Redo) (opened : Slots) (answer : Result Geometry Refusal) (x y : Point) → ClearsJournal found opened answer x y
+cleared_array : (found : Option Redo) (opened : Slots) (answer : Result Geometry Refusal) (x y : Snapshot) → ClearsJournal found opened answer x y
     → ¬ Stops answer → IsArray (unopened x.member) → IsArray (unopened y.member)
 cleared_array _ _ _ _ _ (ClearsJournal.Closes opened live refusal x y are does) going array =
     stage_array (gate_writes closed_gate) live refusal x y does (goes_on x.member.array.geometry refusal going) array
 cleared_array _ _ _ _ _ (ClearsJournal.Stops redo opened body was stripe fault x y found) going array = absurd (going (final_refused fault))
 cleared_array _ _ _ _ _ (ClearsJournal.BodyLost redo opened body was stripe sector x y found lost) going array =
-    left_array body.gone None (point x.member found.mid) y found.leaves refl array
+    left_array body.gone None (snapshot x.member found.mid) y found.leaves refl array
 cleared_array _ _ _ _ _ (ClearsJournal.Replayed redo opened body was stripe refusal x y z found whole run) going array =
     replay_array redo stripe opened refusal y z run (goes_on x.member.array.geometry refusal going)
-    (left_array body.gone None (point x.member found.mid) y found.leaves refl array)
+    (left_array body.gone None (snapshot x.member found.mid) y found.leaves refl array)
 
-pub recovered_array : (answer : Result Geometry Refusal) (x y : Point) → Recovers answer x y → ¬ Stops answer → IsArray (unopened y.member)
+pub recovered_array : (answer : Result Geometry Refusal) (x y : Snapshot) → Recovers answer x y → ¬ Stops answer → IsArray (unopened y.member)
 recovered_array _ _ _ (Recovers.NoEpoch fault x y e) going = absurd (going (final_refused fault))
 recovered_array _ _ _ (Recovers.Stops fallen opened redo fault x y z e found) going = absurd (going (final_refused fault))
 recovered_array _ _ _ (Recovers.Goes fallen opened redo answer x y z w e found clears) going =
@@ -239,12 +239,12 @@ recovered_array _ _ _ (Recovers.Goes fallen opened redo answer x y z w e found c
 
 -- WHAT IS PROMISED
 
-mark_goes_on : (x y : Point) (j : ℕ) → MarkStays x y j → MarkGoesOn Recover x.told y.told x.member y.member j
+mark_goes_on : (x y : Snapshot) (j : ℕ) → MarkStays x y j → MarkGoesOn Recover x.told y.told x.member y.member j
 mark_goes_on x y j (MarkStays.Same same) = MarkGoesOn.Stays same
 mark_goes_on x y j (MarkStays.WasAway live rebuilt down) = MarkGoesOn.WasAway refl live rebuilt down
 mark_goes_on x y j (MarkStays.Went was down) = MarkGoesOn.Went was down
 
-pub member_goes_on : (more : ℕ) (x y : Point) → IsPart more x y → MemberGoesOn Recover x.told y.told x.member y.member
+pub member_goes_on : (more : ℕ) (x y : Snapshot) → IsPart more x y → MemberGoesOn Recover x.told y.told x.member y.member
 member_goes_on more x y part = record {
   geometry = part.geometry;
   whys = λ j below. why_goes_on Recover x y j (part.whys j below);
@@ -261,17 +261,17 @@ keeps_rebuild (Ok g) m last = refl
 keeps_rebuild (Err refusal) m last = KeepsProgress.Stays refl (λ rebuild is. absurd (cc))
 
 -- An opening did what is promised of a step.
-module _ (m last : Membership) (answer : Answer Recover) (x y : Telling) (rules : IsMembership m)
-    (does : Recovers answer (point m x) (point last y)) where
-  part : IsPart 1 (point m x) (point last y)
-  part = recovered_part answer (point m x) (point last y) does rules
+module _ (m last : Membership) (answer : Answer Recover) (x y : RackState) (rules : IsMembership m)
+    (does : Recovers answer (snapshot m x) (snapshot last y)) where
+  part : IsPart 1 (snapshot m x) (snapshot last y)
+  part = recovered_part answer (snapshot m x) (snapshot last y) does rules
 
   caused : (given : Answer Recover) → answer ≡ given → IfErr given (λ why. HasCause Recover why (unopened m) last x y)
   caused (Ok g) same = tt
-  caused (Err why) same = recovered_caused answer (point m x) (point last y) does rules why same
+  caused (Err why) same = recovered_caused answer (snapshot m x) (snapshot last y) does rules why same
 
   allowed : (given : Answer Recover) → answer ≡ given → IsAllowed Recover given (unopened m)
-  allowed (Ok g) same = recovered_answers answer (point m x) (point last y) does rules g same
+  allowed (Ok g) same = recovered_answers answer (snapshot m x) (snapshot last y) does rules g same
   allowed (Err why) same = tt
 
   pub performs : Performs Recover answer (events_of Recover answer m.array last.array) (record { told = x; session = Found m })
@@ -282,17 +282,17 @@ module _ (m last : Membership) (answer : Answer Recover) (x y : Telling) (rules 
     starts = refl;
     ends = ends answer last;
     later = part.after.later;
-    goes_on = member_goes_on 1 (point m x) (point last y) part;
+    goes_on = member_goes_on 1 (snapshot m x) (snapshot last y) part;
     rebuild = keeps_rebuild answer m last;
-    draws_few = draws_few Recover (point m x) (point last y) part;
+    draws_few = draws_few Recover (snapshot m x) (snapshot last y) part;
     events_are = refl;
     caused = caused answer refl;
     allowed = allowed answer refl;
-    array = recovered_array answer (point m x) (point last y) does;
+    array = recovered_array answer (snapshot m x) (snapshot last y) does;
     counted = tt;
     remembers = refl;
     does = does;
-    left_out = recovered_left_out answer (point m x) (point last y) does rules;
+    left_out = recovered_left_out answer (snapshot m x) (snapshot last y) does rules;
     made = λ honest. tt;
     repaired = λ honest. tt;
     looked = λ honest. tt;

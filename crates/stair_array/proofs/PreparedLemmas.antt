@@ -9,7 +9,7 @@ use Rattle.stair_rack.specs.Moments.{AtSomeMoment}
 use Rattle.stair_rack.specs.Offline.{IsAttached}
 use Rattle.stair_rack.specs.Placed.{IsSlot, IsSyncOf, IsWriteOf, Placed}
 use Rattle.stair_rack.specs.Sector.{Cell, Damaged, Good, Torn, TornOverDamage, content}
-use Rattle.stair_rack.specs.Telling.{IsReading, Telling}
+use Rattle.stair_rack.specs.RackState.{IsReading, RackState}
 use Rattle.stair_rack.specs.declared.rack.Reply.TheVariants as reply
 use Rattle.stair_rack.proofs.MomentLemmas.{IsThis, calls_ran, ran_join, ran_weakened}
 use Rattle.stair_super.specs.Superblock.{Superblock, mark_in}
@@ -23,16 +23,16 @@ use Rattle.stair_member.proofs.SuperLemmas.{holds_once}
 use Rattle.stair_journal.specs.Gate.{closed_gate}
 use Rattle.stair_state.specs.Recovering.{IsShut}
 use Rattle.stair_state.specs.Redoing.{AttachesNone, WritesNone}
-use Rattle.stair_session.specs.Chunks.{IsBesideChunks}
-use Rattle.stair_session.specs.Courses.{Point, point}
-use Rattle.stair_session.specs.InSession.{IsBehindPlaces}
-use Rattle.stair_session.specs.Leading.{IsBesideArray}
-use Rattle.stair_session.specs.Rebuilding.{Rebuild}
-use Rattle.stair_session.specs.Session.{ArrayState, IsArray}
-use Rattle.stair_session.proofs.KnownLemmas.{attached_before}
-use Rattle.stair_session.proofs.Mending.{IsLookedAt}
-use Rattle.stair_session.proofs.ReadyLemmas.{laid}
-use Rattle.stair_session.proofs.RebaseLemmas.{shut_now}
+use Rattle.stair_invariant.specs.Chunks.{IsBesideChunks}
+use Rattle.stair_invariant.specs.Effects.{Snapshot, snapshot}
+use Rattle.stair_invariant.specs.InSession.{IsBehindPlaces}
+use Rattle.stair_invariant.specs.Leading.{IsBesideArray}
+use Rattle.stair_invariant.specs.Rebuilding.{Rebuild}
+use Rattle.stair_invariant.specs.Session.{ArrayState, IsArray}
+use Rattle.stair_invariant.proofs.KnownLemmas.{attached_before}
+use Rattle.stair_invariant.proofs.Mending.{IsLookedAt}
+use Rattle.stair_invariant.proofs.ReadyLemmas.{laid}
+use Rattle.stair_invariant.proofs.RebaseLemmas.{shut_now}
 use Rattle.stair_array.specs.Mends.{IsPreparing, IsSecondLook, Looks, Prepared, PreparesSlot, WasGone, WasOther, WasSmall, new_journal}
 use Rattle.stair_array.specs.Machine.{Refusal}
 use Rattle.stair_array.proofs.NewJournalLemmas.{journal_gate, journal_is}
@@ -97,7 +97,7 @@ module _ (g : Geometry) (slot : ℕ) where
       ran_weakened {allowed = IsThis slot (Attach reply.Done)} {more = IsPreparing g slot}
       (λ j c this. subst (IsPreparing g slot j) (sym this.1) this.0) (calls_ran called)
 
-  looks_ran : (mid : Telling) (x y : Point) → Looks slot mid x y → IsTrue y.told.honest → Ran (IsPreparing g slot) x.told.history y.told.history
+  looks_ran : (mid : RackState) (x y : Snapshot) → Looks slot mid x y → IsTrue y.told.honest → Ran (IsPreparing g slot) x.told.history y.told.history
   looks_ran mid x y looks honest =
       let honest_mid = subst IsTrue (sym looks.later.honest) honest in
       ran_join {allowed = IsPreparing g slot} (attaching x.told.history mid.history (looks.attached honest_mid))
@@ -117,7 +117,7 @@ module _ (g : Geometry) (slot : ℕ) where
       (ran_weakened {allowed = IsWriteOf (new_journal g) (IsSlot slot)} {more = IsPreparing g slot} writing placed.writes)
       (ran_weakened {allowed = IsSyncOf (IsSlot slot)} {more = IsPreparing g slot} syncing placed.syncs)
 
-pub prepares_ran : (slot : ℕ) (answer : Result (Unit {0}) Refusal) (x z : Point) → PreparesSlot slot answer x z → IsTrue z.told.honest
+pub prepares_ran : (slot : ℕ) (answer : Result (Unit {0}) Refusal) (x z : Snapshot) → PreparesSlot slot answer x z → IsTrue z.told.honest
     → Ran (IsPreparing x.member.array.geometry slot) x.told.history z.told.history
 prepares_ran slot _ _ _ (WasGone x y only found) honest = only.ran honest
 prepares_ran slot _ _ _ (WasSmall has needs mid x y looks small) honest = looks_ran x.member.array.geometry slot mid x y looks honest
@@ -128,7 +128,7 @@ prepares_ran slot _ _ _ (Prepared first second mid x y z looks fit later placed 
     (laid_ran x.member.array.geometry slot y.told.history z.told.history (placed honest))
 
 -- where the slot isn't prepared nothing of the array is changed
-pub unprepared_member : (slot : ℕ) (answer : Result (Unit {0}) Refusal) (x z : Point) → PreparesSlot slot answer x z → (refusal : Refusal)
+pub unprepared_member : (slot : ℕ) (answer : Result (Unit {0}) Refusal) (x z : Snapshot) → PreparesSlot slot answer x z → (refusal : Refusal)
     → answer ≡ Err refusal → z.member ≡ x.member
 unprepared_member slot _ _ _ (WasGone x y only found) refusal is = only.member
 unprepared_member slot _ _ _ (WasSmall has needs mid x y looks small) refusal is = looks.member
@@ -138,7 +138,7 @@ unprepared_member slot _ _ _ (Prepared first second mid x y z looks fit later pl
 -- READY for the admission
 
 -- a cell that was read, and so at the moment at which it was, holds no draw above this
-pub read_below : (slot k draw : ℕ) (old new : Telling) (cell : Cell) → IsReading slot k old new cell → IsTrue new.honest
+pub read_below : (slot k draw : ℕ) (old new : RackState) (cell : Cell) → IsReading slot k old new cell → IsTrue new.honest
     → ((s : Superblock) → HoldsSuper cell s → s.draw ≤ draw)
     → AtSomeMoment (λ h. (s : Superblock) → HoldsSuper (content ((slot_state h slot).sector k)) s → s.draw ≤ draw) old.history new.history
 read_below slot k draw old new (Good bytes) reading honest most =
@@ -163,7 +163,7 @@ held_below cell (Some t) is s holds =
     let at : s.draw ≡ t.draw = ap (λ (u : Superblock). u.draw) same in
     omega (arith, at)
 
-module _ (a : ArrayState) (array : IsArray a) (slot : ℕ) (old : Telling) (z : Point) (prep : IsReady slot (point a.member old) z)
+module _ (a : ArrayState) (array : IsArray a) (slot : ℕ) (old : RackState) (z : Snapshot) (prep : IsReady slot (snapshot a.member old) z)
     (honest : IsTrue z.told.honest) (below : slot < a.member.array.geometry.n) (down : mark_in a.member.array slot ≡ Down) where
   honest_y : IsTrue prep.seen.told.honest
   honest_y = subst IsTrue (sym prep.later.honest) honest
@@ -174,7 +174,7 @@ module _ (a : ArrayState) (array : IsArray a) (slot : ℕ) (old : Telling) (z : 
   ran : Ran (IsPreparing a.member.array.geometry slot) old.history z.told.history
   ran =
       ran_join {allowed = IsPreparing a.member.array.geometry slot}
-      (looks_ran a.member.array.geometry slot prep.mid (point a.member old) prep.seen prep.looks honest_y)
+      (looks_ran a.member.array.geometry slot prep.mid (snapshot a.member old) prep.seen prep.looks honest_y)
       (laid_ran a.member.array.geometry slot prep.seen.told.history z.told.history (prep.placed honest))
 
   -- what lays the journal out attaches nothing

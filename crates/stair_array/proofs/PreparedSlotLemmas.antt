@@ -14,7 +14,7 @@ use Rattle.stair_rack.specs.Passes.{Landed}
 use Rattle.stair_rack.specs.Placed.{IsSlot, IsSyncOf, IsWriteOf, Placed}
 use Rattle.stair_rack.specs.Sector.{Cell, Damaged, Good, Sector, Torn, TornOverDamage, content}
 use Rattle.stair_rack.specs.Stretch.{NoneWritten}
-use Rattle.stair_rack.specs.Telling.{IsLater, IsReading, Telling}
+use Rattle.stair_rack.specs.RackState.{IsLater, IsReading, RackState}
 use Rattle.stair_rack.specs.declared.rack.Reply.TheVariants as reply
 use Rattle.stair_rack.proofs.CallLemmas.{attach_done}
 use Rattle.stair_rack.proofs.KeptLemmas.{SectorKeeps, keeps_sector, not_none, with_old_cases}
@@ -23,14 +23,14 @@ use Rattle.stair_rack.proofs.OfflineLemmas.{and-true_left, held_on, unready_when
 use Rattle.stair_rack.proofs.ReadLemmas.{ready_unpulled}
 use Rattle.stair_rack.proofs.StepLemmas.{kept, keeps_slot}
 use Rattle.stair_rack.proofs.StretchLemmas.{none_written}
-use Rattle.stair_rack.proofs.TellingLemmas.{later_join}
+use Rattle.stair_rack.proofs.RackStateLemmas.{later_join}
 use Rattle.stair_super.specs.Superblock.{Superblock}
 use Rattle.stair_member.specs.Membership.{IsMembership, Membership}
 use Rattle.stair_member.specs.Seeing.{Sees, draw_in}
 use Rattle.stair_member.specs.Superblocks.{HoldsSuper, HoldsThis}
 use Rattle.stair_member.proofs.DecisionLemmas.{no_super}
 use Rattle.stair_member.proofs.SightLemmas.{place_cases}
-use Rattle.stair_session.specs.Courses.{Point}
+use Rattle.stair_invariant.specs.Effects.{Snapshot}
 use Rattle.stair_array.specs.Created.{created_sector}
 use Rattle.stair_array.specs.Draws.{HadSeen}
 use Rattle.stair_array.specs.Look.{IsLook}
@@ -49,7 +49,7 @@ pub record HeldThen (old new : List Happening) (j k : ℕ) (cell : Cell) : Type 
   pub only : (s : Superblock) → HoldsSuper (cells_at moment j k) s → HoldsSuper cell s
   pub does : (s : Superblock) → HoldsSuper cell s → HoldsSuper (cells_at moment j k) s
 
-pub held_then : (j k : ℕ) (old new : Telling) (cell : Cell) → IsReading j k old new cell → IsTrue new.honest
+pub held_then : (j k : ℕ) (old new : RackState) (cell : Cell) → IsReading j k old new cell → IsTrue new.honest
     → HeldThen old.history new.history j k cell
 held_then j k old new (Good bytes) was honest =
     let read = was honest in
@@ -153,11 +153,11 @@ looks_unwritten slot old mid h attached looked =
 
 -- A SLOT THAT WAS PREPARED
 
-pub record IsReady (slot : ℕ) (x z : Point) : Type 0 where
+pub record IsReady (slot : ℕ) (x z : Snapshot) : Type 0 where
   pub first : Option Superblock
   pub second : Option Superblock
-  pub mid : Telling
-  pub seen : Point
+  pub mid : RackState
+  pub seen : Snapshot
   pub looks : Looks slot mid x seen
   pub fit : IsFit x.member.array.geometry slot first second mid seen.told
   pub later : IsLater seen.told z.told
@@ -166,7 +166,7 @@ pub record IsReady (slot : ℕ) (x z : Point) : Type 0 where
   pub sees : Sees slot first second seen.member z.member
   pub rules : IsMembership z.member
 
-pub ready_of : (slot : ℕ) (answer : Result (Unit {0}) Refusal) (x z : Point) → PreparesSlot slot answer x z → answer ≡ Ok tt → IsReady slot x z
+pub ready_of : (slot : ℕ) (answer : Result (Unit {0}) Refusal) (x z : Snapshot) → PreparesSlot slot answer x z → answer ≡ Ok tt → IsReady slot x z
 ready_of slot _ _ _ (PreparesSlot.WasGone x y only gone) is = absurd (cc)
 ready_of slot _ _ _ (PreparesSlot.WasSmall has needs mid x y looks small) is = absurd (cc)
 ready_of slot _ _ _ (PreparesSlot.WasOther mid x y looks other) is = absurd (cc)
@@ -183,7 +183,7 @@ ready_of slot _ _ _ (PreparesSlot.Prepared first second mid x y z looks fit late
   rules = rules;
 }
 
-module _ (slot : ℕ) (x z : Point) (r : IsReady slot x z) where
+module _ (slot : ℕ) (x z : Snapshot) (r : IsReady slot x z) where
   pub ready_later : IsLater x.told z.told
   ready_later = later_join r.looks.first (later_join r.looks.later r.later)
 
@@ -332,7 +332,7 @@ module _ (slot : ℕ) (x z : Point) (r : IsReady slot x z) where
 
   -- THE GREATEST DRAW THAT WAS SEEN
 
-  module _ (new : Telling) (further : IsLater z.told new) where
+  module _ (new : RackState) (further : IsLater z.told new) where
     abbrev IsSeen : ℕ → Type 0
     IsSeen draw = HadSeen (ReplaceSlot slot) x.member x.told new draw × (x.member.drawn ≤ draw)
 

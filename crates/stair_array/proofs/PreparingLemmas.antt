@@ -10,10 +10,10 @@ use Rattle.stair_model.specs.Stripe.{Stripe}
 use Rattle.stair_model.proofs.SetLaws.{cell_count_member}
 use Rattle.stair_rack.specs.RackCounts.{RisesAtMost}
 use Rattle.stair_rack.specs.Sector.{Damaged}
-use Rattle.stair_rack.specs.Telling.{IsLater, Telling}
+use Rattle.stair_rack.specs.RackState.{IsLater, RackState}
 use Rattle.stair_rack.proofs.GoneLemmas.{is_gone_wider}
 use Rattle.stair_rack.proofs.PassCounts.{rises_more, rises_within}
-use Rattle.stair_rack.proofs.TellingLemmas.{later_none, reading_wider}
+use Rattle.stair_rack.proofs.RackStateLemmas.{later_none, reading_wider}
 use Rattle.stair_member.specs.Membership.{Membership}
 use Rattle.stair_member.specs.declared.fault.FenceFault.{FenceFault}
 use Rattle.stair_member.proofs.CountingLemmas.{has_or_not}
@@ -21,8 +21,8 @@ use Rattle.stair_journal.proofs.ReadGateLemmas.{cell_counted}
 use Rattle.stair_stripes.specs.Gathering.{Gathers, IsAway}
 use Rattle.stair_stripes.proofs.ReadCounts.{stripe_few}
 use Rattle.stair_stripes.specs.declared.gathering.Gathered.{Gathered}
-use Rattle.stair_session.specs.Courses.{AreLive, LeavesOut, Loads, Point, point}
-use Rattle.stair_session.specs.Session.{IsLiveIn}
+use Rattle.stair_invariant.specs.Effects.{AreLive, FencesGone, Loads, Snapshot, snapshot}
+use Rattle.stair_invariant.specs.Session.{IsLiveIn}
 use Rattle.stair_array.specs.Arrays.{LacksOne, cells_of, outcome}
 use Rattle.stair_array.specs.Calls.{LoadsStripe, Prepares}
 use Rattle.stair_array.specs.Faults.{array_fault}
@@ -35,24 +35,24 @@ use Rattle.stair_array.proofs.ReadCourseLemmas.{loaded_after}
 use Rattle.stair_array.proofs.ReadingLemmas.{epoch_answer}
 
 -- for whichever number of blocks that don't fill the stripe
-abbrev pub ReadiesFor : Membership → ℕ → CellSet → Stripe → Result (Unit {0}) Refusal → Point → Point → Type 0
+abbrev pub ReadiesFor : Membership → ℕ → CellSet → Stripe → Result (Unit {0}) Refusal → Snapshot → Snapshot → Type 0
 ReadiesFor m t cells loaded answer x y = (count : ℕ) → count < data_cells m.array.geometry → Prepares t count cells loaded answer x y
 
-module _ (m : Membership) (t : ℕ) (cells : CellSet) (live : Slots) (are : AreLive m live) (old : Telling) where
+module _ (m : Membership) (t : ℕ) (cells : CellSet) (live : Slots) (are : AreLive m live) (old : RackState) where
   -- a slot that isn't live has one of these cells
   module _ (lacking : (i : ℕ) × (j : ℕ) × HasCell cells i j × (¬ HasSlot live j)) where
     away : ¬ IsLiveIn m lacking.1
     away is = lacking.3 ((are.are lacking.1).1 is)
 
-    pub by_stripe : (loaded : Stripe) (answer : Result (Unit {0}) Refusal) (y : Point) → LoadsStripe t loaded answer (point m old) y
-        → ReadiesFor m t cells loaded answer (point m old) y
-    by_stripe loaded answer y loads count few = Prepares.ByStripe lacking.0 lacking.1 answer (point m old) y few lacking.2 away loads
+    pub by_stripe : (loaded : Stripe) (answer : Result (Unit {0}) Refusal) (y : Snapshot) → LoadsStripe t loaded answer (snapshot m old) y
+        → ReadiesFor m t cells loaded answer (snapshot m old) y
+    by_stripe loaded answer y loads count few = Prepares.ByStripe lacking.0 lacking.1 answer (snapshot m old) y few lacking.2 away loads
 
-    pub lacks_slot : (now : Telling) → LacksOne t cells (point m old) now
+    pub lacks_slot : (now : RackState) → LacksOne t cells (snapshot m old) now
     lacks_slot now = LacksOne.NotLive lacking.0 lacking.1 lacking.2 away
 
   -- they were gathered
-  module _ (g : Geometry) (same : g ≡ m.array.geometry) (gathered : Gathered) (was read : Stripe) (mid : Telling)
+  module _ (g : Geometry) (same : g ≡ m.array.geometry) (gathered : Gathered) (was read : Stripe) (mid : RackState)
       (gathers : Gathers g live t (HasCell cells) gathered was read old mid) where
     own : Gathers m.array.geometry live t (HasCell cells) gathered was read old mid
     own = subst (λ (k : Geometry). Gathers k live t (HasCell cells) gathered was read old mid) same gathers
@@ -60,29 +60,29 @@ module _ (m : Membership) (t : ℕ) (cells : CellSet) (live : Slots) (are : AreL
     gathering_after : IsAfter old mid
     gathering_after = gathers_after g live t (HasCell cells) gathered was read old mid gathers
 
-    loads : (refusal : Option FenceFault) (y : Point) → LeavesOut gathered.gone refusal (point m mid) y
-        → Loads t (HasCell cells) gathered was read refusal (point m old) y
+    loads : (refusal : Option FenceFault) (y : Snapshot) → FencesGone gathered.gone refusal (snapshot m mid) y
+        → Loads t (HasCell cells) gathered was read refusal (snapshot m old) y
     loads refusal y leaves = record { live = live; are_live = are; mid = mid; gathers = own; leaves = leaves }
 
-    pub cells_later : (refusal : Option FenceFault) (y : Point) → LeavesOut gathered.gone refusal (point m mid) y → IsLater old y.told
-    cells_later refusal y leaves = (after_join gathering_after (out_after gathered.gone refusal (point m mid) y leaves)).later
+    pub cells_later : (refusal : Option FenceFault) (y : Snapshot) → FencesGone gathered.gone refusal (snapshot m mid) y → IsLater old y.told
+    cells_later refusal y leaves = (after_join gathering_after (out_after gathered.gone refusal (snapshot m mid) y leaves)).later
 
     -- slots that were gone couldn't be left out
-    pub cells_stop : (fault : FenceFault) (result : Result (Unit {0}) ArrayFault) (y : Point) (kept : Stripe) → kept ≡ read
-        → IsErrAnd result (λ e. e ≡ array_fault fault) → LeavesOut gathered.gone (Some fault) (point m mid) y
-        → ReadiesFor m t cells kept (outcome result) (point m old) y
+    pub cells_stop : (fault : FenceFault) (result : Result (Unit {0}) ArrayFault) (y : Snapshot) (kept : Stripe) → kept ≡ read
+        → IsErrAnd result (λ e. e ≡ array_fault fault) → FencesGone gathered.gone (Some fault) (snapshot m mid) y
+        → ReadiesFor m t cells kept (outcome result) (snapshot m old) y
     cells_stop fault result y kept as_read is leaves count few =
-        subst (λ (s : Stripe). Prepares t count cells s (outcome result) (point m old) y) (sym as_read)
-        (subst (λ (a : Result (Unit {0}) Refusal). Prepares t count cells read a (point m old) y) (sym (epoch_answer result fault is))
-        (Prepares.Stops gathered was fault (point m old) y few (loads (Some fault) y leaves)))
+        subst (λ (s : Stripe). Prepares t count cells s (outcome result) (snapshot m old) y) (sym as_read)
+        (subst (λ (a : Result (Unit {0}) Refusal). Prepares t count cells read a (snapshot m old) y) (sym (epoch_answer result fault is))
+        (Prepares.Stops gathered was fault (snapshot m old) y few (loads (Some fault) y leaves)))
 
-    module _ (y : Point) (leaves : LeavesOut gathered.gone None (point m mid) y) (found : ℕ) (counted : found ≡ cell_count gathered.erased) where
+    module _ (y : Snapshot) (leaves : FencesGone gathered.gone None (snapshot m mid) y) (found : ℕ) (counted : found ≡ cell_count gathered.erased) where
       -- each of them was had
       pub cells_known : (kept : Stripe) → kept ≡ read → IsWithinLimits m.array.geometry → IsInStripe m.array.geometry cells → found ≡ 0
-          → ReadiesFor m t cells kept (Ok tt) (point m old) y
+          → ReadiesFor m t cells kept (Ok tt) (snapshot m old) y
       cells_known kept as_read limits inside zero count few =
-          subst (λ (s : Stripe). Prepares t count cells s (Ok tt) (point m old) y) (sym as_read)
-          (Prepares.ByCells gathered was (point m old) y few (loads None y leaves)
+          subst (λ (s : Stripe). Prepares t count cells s (Ok tt) (snapshot m old) y) (sym as_read)
+          (Prepares.ByCells gathered was (snapshot m old) y few (loads None y leaves)
           (λ i j erased.
           let within = inside i j (own.wanted_erased i j erased) in
           let rows = limits.rows.1 in
@@ -91,18 +91,18 @@ module _ (m : Membership) (t : ℕ) (cells : CellSet) (live : Slots) (are : AreL
           omega (arith, above, counted, zero)))
 
       -- or one wasn't, and the stripe was loaded
-      module _ (some : found ≢ 0) (loaded : Stripe) (answer : Result (Unit {0}) Refusal) (z : Point) (whole : LoadsStripe t loaded answer y z) where
+      module _ (some : found ≢ 0) (loaded : Stripe) (answer : Result (Unit {0}) Refusal) (z : Snapshot) (whole : LoadsStripe t loaded answer y z) where
         lost : (i : ℕ) × (j : ℕ) × (i < 32) × (j < 32) × HasCell gathered.erased i j
         lost = cell_count_member gathered.erased (omega (arith, some, counted))
 
-        pub then_stripe : ReadiesFor m t cells loaded answer (point m old) z
+        pub then_stripe : ReadiesFor m t cells loaded answer (snapshot m old) z
         then_stripe count few =
-            Prepares.AfterCells gathered was read lost.0 lost.1 answer (point m old) y z few (loads None y leaves) lost.4 whole
+            Prepares.AfterCells gathered was read lost.0 lost.1 answer (snapshot m old) y z few (loads None y leaves) lost.4 whole
 
         rest : IsAfter mid z.told
-        rest = after_join (out_after gathered.gone None (point m mid) y leaves) (loaded_after t loaded answer y z whole)
+        rest = after_join (out_after gathered.gone None (snapshot m mid) y leaves) (loaded_after t loaded answer y z whole)
 
-        pub lacks_cell : LacksOne t cells (point m old) z.told
+        pub lacks_cell : LacksOne t cells (snapshot m old) z.told
         lacks_cell =
             elim (has_or_not live lost.1) [
               | inr off ↦ LacksOne.NotLive lost.0 lost.1 wanted (λ on. off ((are.are lost.1).1 on))

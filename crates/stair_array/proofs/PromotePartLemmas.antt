@@ -9,23 +9,23 @@ use Rattle.stair_model.proofs.CountLaws.{sum_below_add, sum_below_le, sum_below_
 use Rattle.stair_model.proofs.SetLaws.{unmarked}
 use Rattle.stair_rack.specs.Answers.{any_call}
 use Rattle.stair_rack.specs.Stretch.{WasAnswered}
-use Rattle.stair_rack.specs.Telling.{Telling}
+use Rattle.stair_rack.specs.RackState.{RackState}
 use Rattle.stair_rack.proofs.MomentLemmas.{moment_between}
-use Rattle.stair_rack.proofs.TellingLemmas.{later_none}
+use Rattle.stair_rack.proofs.RackStateLemmas.{later_none}
 use Rattle.stair_super.specs.Superblock.{mark_in}
 use Rattle.stair_super.specs.declared.configuration.Configuration.{Configuration}
 use Rattle.stair_super.specs.declared.mark.Mark.TheVariants as mark
 use Rattle.stair_member.specs.Aims.{aimed, mark_for}
 use Rattle.stair_member.specs.Establishing.{Did, Establishes, HasBegun, NotYet}
 use Rattle.stair_member.specs.Membership.{IsHere, IsMembership, Membership, why_of}
-use Rattle.stair_member.specs.declared.aim.Aim.TheVariants.{Promote}
+use Rattle.stair_member.specs.declared.aim.EpochChange.TheVariants.{Promote}
 use Rattle.stair_member.specs.declared.fault.FenceFault.{FenceFault}
 use Rattle.stair_member.specs.declared.why.Why.{Why}
 use Rattle.stair_member.specs.declared.why.Why.TheVariants as why
 use Rattle.stair_member.proofs.CountingLemmas.{has_or_not}
 use Rattle.stair_journal.proofs.ToldLemmas.{answered_cases}
-use Rattle.stair_session.specs.Courses.{Point, point}
-use Rattle.stair_session.specs.Session.{IsRebuiltIn}
+use Rattle.stair_invariant.specs.Effects.{Snapshot, snapshot}
+use Rattle.stair_invariant.specs.Session.{IsRebuiltIn}
 use Rattle.stair_array.specs.Causes.{MarkGoesOn, MemberGoesOn, WasGoneTo, WhyGoesOn}
 use Rattle.stair_array.specs.Draws.{weight, weights}
 use Rattle.stair_array.specs.Machine.{RebuildNext, Recover, ReplaceSlot}
@@ -41,13 +41,13 @@ abbrev pub AreMarked : Membership → Type 0
 AreMarked m = (j : ℕ) → j < m.array.geometry.n → mark_in m.array j ≡ mark_for (why_of m j)
 
 -- From x to y slots may have been gone and dropped, and one that is rebuilt promoted. The draws and the weights together didn't rise.
-pub record IsRebuildPart (x y : Point) : Type 0 where
+pub record IsRebuildPart (x y : Snapshot) : Type 0 where
   pub after : IsAfter x.told y.told
   pub rules : IsMembership y.member
   pub goes_on : MemberGoesOn RebuildNext x.told y.told x.member y.member
   pub draws : y.member.drawn + weights y.member ≤ x.member.drawn + weights x.member
 
-pub part_rebuilds : (x y : Point) → AreMarked x.member → IsPart 0 x y → IsRebuildPart x y
+pub part_rebuilds : (x y : Snapshot) → AreMarked x.member → IsPart 0 x y → IsRebuildPart x y
 part_rebuilds x y marked part = record {
   after = part.after;
   rules = part.rules;
@@ -66,14 +66,14 @@ never_admits : (j : ℕ) → RebuildNext ≢ ReplaceSlot j
 never_admits j is = cc
 
 -- a slot that was gone stays so
-gone_still : (x y : Point) (j : ℕ) → WhyGoesOn RebuildNext x.told y.told x.member y.member j → why_of x.member j ≡ why.Gone
+gone_still : (x y : Snapshot) (j : ℕ) → WhyGoesOn RebuildNext x.told y.told x.member y.member j → why_of x.member j ≡ why.Gone
     → why_of y.member j ≡ why.Gone
 gone_still x y j (WhyGoesOn.Stays same) is = same ∙ is
 gone_still x y j (WhyGoesOn.Went gone was) is = gone
 gone_still x y j (WhyGoesOn.IsAdmitted step rebuilt) is = absurd (never_admits j step)
 gone_still x y j (WhyGoesOn.IsPromoted step rebuilt here) is = absurd (let never : why.Gone ≡ why.Rebuilding = sym is ∙ rebuilt in cc)
 
-module _ (x y : Point) (p : IsRebuildPart x y) where
+module _ (x y : Snapshot) (p : IsRebuildPart x y) where
   below_back : (j : ℕ) → j < y.member.array.geometry.n → j < x.member.array.geometry.n
   below_back j below = subst (λ (g : Geometry). j < g.n) p.goes_on.geometry below
 
@@ -88,7 +88,7 @@ module _ (x y : Point) (p : IsRebuildPart x y) where
   here_first : (j : ℕ) → IsHere y.member j → IsHere x.member j
   here_first j here = here_by j (p.goes_on.whys j (below_back j here.below)) here
 
-module _ (x y z : Point) (first : IsRebuildPart x y) (second : IsRebuildPart y z) where
+module _ (x y z : Snapshot) (first : IsRebuildPart x y) (second : IsRebuildPart y z) where
   sooner : (j : ℕ) → WasGoneTo x.member j x.told y.told → WasGoneTo x.member j x.told z.told
   sooner j = gone_to_wider x.member j x.told x.told y.told z.told (later_none x.told) first.after.later second.after
 
@@ -176,7 +176,7 @@ one_counted n k f below one =
     omega (arith, one, longer, more)
 
 -- An epoch that promotes a slot that is rebuilt, of an array whose marks say what is known.
-module _ (slot : ℕ) (m last : Membership) (refusal : Option FenceFault) (old new : Telling) (e : Establishes (Promote slot) m last refusal old new)
+module _ (slot : ℕ) (m last : Membership) (refusal : Option FenceFault) (old new : RackState) (e : Establishes (Promote slot) m last refusal old new)
     (rules : IsMembership m) (marked : AreMarked m) (rebuilt : IsRebuiltIn m slot) where
   after : IsAfter old new
   after = epoch_after (Promote slot) m last refusal old new e
@@ -351,7 +351,7 @@ module _ (slot : ℕ) (m last : Membership) (refusal : Option FenceFault) (old n
           by (NotYet same whys) = weights_left whys
           by (Did above named whys) = let lighter = weights_aimed whys in omega (arith, lighter)
 
-  pub promotion_rebuilds : IsRebuildPart (point m old) (point last new)
+  pub promotion_rebuilds : IsRebuildPart (snapshot m old) (snapshot last new)
   promotion_rebuilds = record {
     after = after;
     rules = e.rules;

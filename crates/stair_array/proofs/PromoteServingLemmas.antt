@@ -5,7 +5,7 @@ use Rattle.stair_model.specs.Slots.{HasSlot, Slots}
 use Rattle.stair_rack.specs.Answers.{any_call}
 use Rattle.stair_rack.specs.History.{Happening}
 use Rattle.stair_rack.specs.Moments.{AtEveryMoment}
-use Rattle.stair_rack.specs.Telling.{Telling}
+use Rattle.stair_rack.specs.RackState.{RackState}
 use Rattle.stair_rack.proofs.MomentLemmas.{at_every_from, ran_join}
 use Rattle.stair_super.specs.Superblock.{mark_in}
 use Rattle.stair_super.specs.declared.configuration.Configuration.{Configuration}
@@ -13,20 +13,20 @@ use Rattle.stair_super.specs.declared.mark.Mark.TheVariants as mark
 use Rattle.stair_member.specs.Aims.{mark_for}
 use Rattle.stair_member.specs.Establishing.{Establishes, Joins, refusal_in}
 use Rattle.stair_member.specs.Membership.{Membership, why_of}
-use Rattle.stair_member.specs.declared.aim.Aim.TheVariants.{Promote}
+use Rattle.stair_member.specs.declared.aim.EpochChange.TheVariants.{Promote}
 use Rattle.stair_member.specs.declared.fault.AdmitFault.{AdmitFault}
 use Rattle.stair_member.specs.declared.fault.AdmitFault.TheVariants as admit
 use Rattle.stair_member.specs.declared.fault.FenceFault.TheVariants as fence
 use Rattle.stair_state.specs.Blocks.{Codewords}
 use Rattle.stair_state.specs.State.{Content}
-use Rattle.stair_session.specs.Courses.{Point}
-use Rattle.stair_session.specs.Opening.{opened_with}
-use Rattle.stair_session.specs.Returning.{Returning}
-use Rattle.stair_session.specs.SeatSteps.{SeatGoes, SeatsMove}
-use Rattle.stair_session.specs.Session.{ArrayState, IsOpenWith, seats_in}
-use Rattle.stair_session.proofs.OpenWithLemmas.{rebuilds_on}
-use Rattle.stair_session.proofs.Serving.{IsCalmTo, IsGoing, IsServing}
-use Rattle.stair_session.proofs.Mending.{calm_going, IsRebuiltWhole, LeadsPromotions, epoch_moves}
+use Rattle.stair_invariant.specs.Effects.{Snapshot}
+use Rattle.stair_invariant.specs.Opening.{opened_with}
+use Rattle.stair_invariant.specs.Returning.{Returning}
+use Rattle.stair_invariant.specs.SeatSteps.{SeatGoes, SeatsMove}
+use Rattle.stair_invariant.specs.Session.{ArrayState, IsOpenWith, seats_in}
+use Rattle.stair_invariant.proofs.OpenWithLemmas.{rebuilds_on}
+use Rattle.stair_invariant.proofs.Serving.{StaysWithinToleranceTo, IsGoing, IsServing}
+use Rattle.stair_invariant.proofs.Mending.{calm_going, IsRebuiltWhole, LeadsPromotions, epoch_moves}
 use Rattle.stair_array.specs.Machine.{Dropped, Promoted}
 use Rattle.stair_array.specs.Mends.{promoted_as}
 use Rattle.stair_array.proofs.PartsLemmas.{epoch_after}
@@ -39,8 +39,8 @@ none_rebuilt before last words h is b same none =
     rebuilds_on before (opened_with last) b words h is same (λ rebuild at. absurd (let never : None ≡ Some rebuild = sym none ∙ at in cc))
 
 module _ (returning : Returning) (promotions : LeadsPromotions returning) (before : List Happening) (m : Membership) (words : Codewords)
-    (kept : Content) (j : ℕ) (old : Telling) (is : IsServing returning before (opened_with m) words kept old.history)
-    (whole : IsRebuiltWhole (opened_with m) words old.history j) (z : Point) (honest : IsTrue z.told.honest) where
+    (kept : Content) (j : ℕ) (old : RackState) (is : IsServing returning before (opened_with m) words kept old.history)
+    (whole : IsRebuiltWhole (opened_with m) words old.history j) (z : Snapshot) (honest : IsTrue z.told.honest) where
   -- seats as the aim has them are those of a step of a rebuild
   may_move : (gone : Slots) (array : Configuration)
       → (array ≡ m.array) ⊎ SeatsMove (Promote j) (HasSlot gone) (seats_in m.array) (seats_in array) → MayMove (seats_in m.array) (seats_in array)
@@ -90,7 +90,7 @@ module _ (returning : Returning) (promotions : LeadsPromotions returning) (befor
   -- WHAT IT COMES TO
 
   pub promotion_ends : (was : ArrayState) (given : Result Slots AdmitFault) → Joins (Promote j) j m z.member given old z.told
-      → IsCalmTo returning m.array.geometry before z.told.history → Outcome returning before was words kept m (promoted_as j given) z
+      → StaysWithinToleranceTo returning m.array.geometry before z.told.history → Outcome returning before was words kept m (promoted_as j given) z
   promotion_ends was given joins calm = by given joins
     where
       on : IsGoing returning m.array.geometry before z.told.history

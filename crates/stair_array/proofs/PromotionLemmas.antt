@@ -6,18 +6,18 @@ use Rattle.stair_model.specs.Geometry.{Geometry}
 use Rattle.stair_model.specs.Slots.{HasSlot, Slots}
 use Rattle.stair_rack.specs.Count.{Rose}
 use Rattle.stair_rack.specs.declared.rack.Reply.TheVariants as reply
-use Rattle.stair_rack.proofs.TellingLemmas.{gones_wider, later_none}
+use Rattle.stair_rack.proofs.RackStateLemmas.{gones_wider, later_none}
 use Rattle.stair_member.specs.Epochs.{IsRefusedBy}
 use Rattle.stair_member.specs.Establishing.{Joins, refusal_in}
 use Rattle.stair_member.specs.Membership.{IsHere, Membership, why_of}
-use Rattle.stair_member.specs.declared.aim.Aim.TheVariants.{Promote}
+use Rattle.stair_member.specs.declared.aim.EpochChange.TheVariants.{Promote}
 use Rattle.stair_member.specs.declared.fault.AdmitFault.{AdmitFault}
 use Rattle.stair_member.specs.declared.fault.AdmitFault.TheVariants as admit
 use Rattle.stair_member.specs.declared.fault.FenceFault.{FenceFault}
 use Rattle.stair_member.specs.declared.fault.FenceFault.TheVariants as fence
 use Rattle.stair_member.specs.declared.why.Why.TheVariants as why
-use Rattle.stair_session.specs.Courses.{Point}
-use Rattle.stair_session.specs.Session.{IsArray, IsLiveIn, IsRebuiltIn}
+use Rattle.stair_invariant.specs.Effects.{Snapshot}
+use Rattle.stair_invariant.specs.Session.{IsArray, IsLiveIn, IsRebuiltIn}
 use Rattle.stair_array.specs.Calls.{answer_of, refused}
 use Rattle.stair_array.specs.Machine.{Dropped, IsFinal, Progress, Promoted, Refusal}
 use Rattle.stair_array.specs.Mends.{Joined, Promotes, SyncsSlot, Unsynced, promoted_as}
@@ -64,12 +64,12 @@ joined_never j (Err (admit.TooFew whys)) is = is tt
 joined_never j (Err admit.EpochsSpent) is = is tt
 joined_never j (Err (admit.Gone slot)) is = is
 
-pub promotes_never : (j : ℕ) (answer : Result Progress Refusal) (x z : Point) → Promotes j answer x z → ¬ IsBeside answer
+pub promotes_never : (j : ℕ) (answer : Result Progress Refusal) (x z : Snapshot) → Promotes j answer x z → ¬ IsBeside answer
 promotes_never j _ _ _ (Unsynced refusal x y z syncs drops) = dropped_never j refusal
 promotes_never j _ _ _ (Joined given x y z syncs joins) = joined_never j given
 
 -- AN EPOCH THAT PROMOTES, after a sync
-module _ (j : ℕ) (given : Result Slots AdmitFault) (x y z : Point) (syncs : SyncsSlot j reply.Done x y)
+module _ (j : ℕ) (given : Result Slots AdmitFault) (x y z : Snapshot) (syncs : SyncsSlot j reply.Done x y)
     (joins : Joins (Promote j) j y.member z.member given y.told z.told) (array : IsArray (unopened x.member)) (rebuilt : IsRebuiltIn x.member j) where
   array_y : IsArray (unopened y.member)
   array_y = subst (λ (m : Membership). IsArray (unopened m)) (sym syncs.member) array
@@ -109,20 +109,20 @@ module _ (j : ℕ) (given : Result Slots AdmitFault) (x y z : Point) (syncs : Sy
 -- A PROMOTION
 
 module _ (j : ℕ) where
-  pub promotes_part : (answer : Result Progress Refusal) (x z : Point) → Promotes j answer x z → IsArray (unopened x.member)
+  pub promotes_part : (answer : Result Progress Refusal) (x z : Snapshot) → Promotes j answer x z → IsArray (unopened x.member)
       → IsRebuiltIn x.member j → IsRebuildPart x z
   promotes_part _ _ _ (Unsynced refusal x y z syncs drops) array rebuilt =
       part_rebuilds x z array.marks
       (falls_part j refusal x z (sync_falls j refusal x y z syncs drops) array.member (rebuilt_here x.member j rebuilt))
   promotes_part _ _ _ (Joined given x y z syncs joins) array rebuilt = joined_part j given x y z syncs joins array rebuilt
 
-  pub promotes_left_out : (answer : Result Progress Refusal) (x z : Point) → Promotes j answer x z → IsArray (unopened x.member)
+  pub promotes_left_out : (answer : Result Progress Refusal) (x z : Snapshot) → Promotes j answer x z → IsArray (unopened x.member)
       → IsRebuiltIn x.member j → IsTrue z.told.honest → IsLeftOut x z
   promotes_left_out _ _ _ (Unsynced refusal x y z syncs drops) array rebuilt =
       falls_left_out j refusal x z (sync_falls j refusal x y z syncs drops) array.member (rebuilt_here x.member j rebuilt)
   promotes_left_out _ _ _ (Joined given x y z syncs joins) array rebuilt = joined_left_out j given x y z syncs joins array rebuilt
 
-  pub promotes_array : (answer : Result Progress Refusal) (x z : Point) → Promotes j answer x z → IsArray (unopened x.member)
+  pub promotes_array : (answer : Result Progress Refusal) (x z : Snapshot) → Promotes j answer x z → IsArray (unopened x.member)
       → IsRebuiltIn x.member j → ¬ Stops answer → IsArray (unopened z.member)
   promotes_array _ _ _ (Unsynced refusal x y z syncs drops) array rebuilt going =
       falls_array j refusal x z (sync_falls j refusal x y z syncs drops) array.member (rebuilt_here x.member j rebuilt)
@@ -130,7 +130,7 @@ module _ (j : ℕ) where
   promotes_array _ _ _ (Joined given x y z syncs joins) array rebuilt going =
       epoch_array (Promote j) y.member z.member (refusal_in given) y.told z.told joins.establishes (joined_stands j given going)
 
-  pub promotes_refused : (answer : Result Progress Refusal) (x z : Point) → Promotes j answer x z → IsArray (unopened x.member)
+  pub promotes_refused : (answer : Result Progress Refusal) (x z : Snapshot) → Promotes j answer x z → IsArray (unopened x.member)
       → IsRebuiltIn x.member j → (why : Refusal) → answer ≡ Err why → (fault : FenceFault) × (why ≡ refused fault) × IsRefusedBy z.member fault
   promotes_refused _ _ _ (Unsynced refusal x y z syncs drops) array rebuilt why is =
       let by = answered_err (Dropped j) refusal why is in
@@ -141,7 +141,7 @@ module _ (j : ℕ) where
       let by = joined_err j given why is in (by.0, by.2, (joins.establishes.refused by.0 by.1).0)
 
   -- where it is promoted it is live
-  pub promotes_live : (answer : Result Progress Refusal) (x z : Point) → Promotes j answer x z → IsArray (unopened x.member)
+  pub promotes_live : (answer : Result Progress Refusal) (x z : Snapshot) → Promotes j answer x z → IsArray (unopened x.member)
       → IsRebuiltIn x.member j → (i : ℕ) → answer ≡ Ok (Promoted i) → (j ≡ i) × IsLiveIn z.member j
   promotes_live _ _ _ (Unsynced None x y z syncs drops) array rebuilt i is = absurd (cc)
   promotes_live _ _ _ (Unsynced (Some fault) x y z syncs drops) array rebuilt i is = absurd (cc)
@@ -152,7 +152,7 @@ module _ (j : ℕ) where
   promotes_live _ _ _ (Joined (Err (admit.Gone slot)) x y z syncs joins) array rebuilt i is = absurd (cc)
 
   -- where it is dropped it was gone
-  pub promotes_dropped : (answer : Result Progress Refusal) (x z : Point) → Promotes j answer x z → IsArray (unopened x.member)
+  pub promotes_dropped : (answer : Result Progress Refusal) (x z : Snapshot) → Promotes j answer x z → IsArray (unopened x.member)
       → IsRebuiltIn x.member j → (i : ℕ) → answer ≡ Ok (Dropped i)
       → (j ≡ i) × (why_of z.member j ≡ why.Gone) × Rose (x.told.gones j) (z.told.gones j)
   promotes_dropped _ _ _ (Unsynced None x y z syncs drops) array rebuilt i is =

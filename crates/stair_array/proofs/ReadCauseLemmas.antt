@@ -3,13 +3,13 @@ use Rattle.std.proofs.Common.{◌≡◌, ℕ, ◌<◌, List, refl, sym, ap, subs
 use Rattle.std.specs.Prelude.{◌/◌, Err, IfErr, Ok, Result}
 use Rattle.stair_model.specs.Geometry.{block_count, data_cells}
 use Rattle.stair_model.specs.Stripe.{Stripe}
-use Rattle.stair_rack.specs.Telling.{Telling}
+use Rattle.stair_rack.specs.RackState.{RackState}
 use Rattle.stair_member.specs.Membership.{IsMembership, Membership}
 use Rattle.stair_member.specs.declared.fault.FenceFault.{FenceFault}
 use Rattle.stair_member.specs.declared.fault.FenceFault.TheVariants as fence
-use Rattle.stair_session.specs.Courses.{Point, point}
-use Rattle.stair_session.specs.Rebuilding.{Rebuild}
-use Rattle.stair_session.specs.Session.{IsArray, Remembered}
+use Rattle.stair_invariant.specs.Effects.{Snapshot, snapshot}
+use Rattle.stair_invariant.specs.Rebuilding.{Rebuild}
+use Rattle.stair_invariant.specs.Session.{IsArray, Remembered}
 use Rattle.stair_array.specs.Calls.{LoadsStripe, Reads, refused}
 use Rattle.stair_array.specs.Causes.{HasCause, IsAllowed}
 use Rattle.stair_array.specs.Events.{events_of}
@@ -24,7 +24,7 @@ use Rattle.stair_array.proofs.ReadCourseLemmas.{cannot_part, loaded_part, cannot
 
 -- WHY IT IS REFUSED
 
-unloaded_caused : (rebuild : Option Rebuild) (known : Option Remembered) (b t : ℕ) (why : Refusal) (x z : Point) → t ≡ b / data_cells x.member.array.geometry
+unloaded_caused : (rebuild : Option Rebuild) (known : Option Remembered) (b t : ℕ) (why : Refusal) (x z : Snapshot) → t ≡ b / data_cells x.member.array.geometry
     → Unloaded t why x z → HasCause (ReadBlock b) why (running x.member rebuild known) z.member x.told z.told
 unloaded_caused rebuild known b t why x z at (Unloaded.ByEpoch fault same stops) =
     subst (λ (r : Refusal). HasCause (ReadBlock b) r (running x.member rebuild known) z.member x.told z.told) (sym same) (by fault stops)
@@ -35,7 +35,7 @@ unloaded_caused rebuild known b t why x z at (Unloaded.ByEpoch fault same stops)
 unloaded_caused rebuild known b t why x z at (Unloaded.ByPattern counts same is) =
     subst (λ (r : Refusal). HasCause (ReadBlock b) r (running x.member rebuild known) z.member x.told z.told) (sym same) (at, is)
 
-read_caused : (rebuild : Option Rebuild) (known : Option Remembered) (b : ℕ) (after : Option Remembered) (answer : Result (List ℕ) Refusal) (x z : Point) → Reads b known after answer x z
+read_caused : (rebuild : Option Rebuild) (known : Option Remembered) (b : ℕ) (after : Option Remembered) (answer : Result (List ℕ) Refusal) (x z : Snapshot) → Reads b known after answer x z
     → IsMembership x.member → (why : Refusal) → answer ≡ Err why → HasCause (ReadBlock b) why (running x.member rebuild known) z.member x.told z.told
 read_caused rebuild known b _ _ _ _ (Reads.OutOf x past) rules why same =
     let by : OutOfRange b (block_count x.member.array.geometry) ≡ why = cc in
@@ -52,7 +52,7 @@ read_caused rebuild known b _ _ _ _ (Reads.Refused t i j into refusal x y z plac
 
 -- WHAT IT ANSWERS
 
-read_below : (b : ℕ) (known after : Option Remembered) (answer : Result (List ℕ) Refusal) (x z : Point) → Reads b known after answer x z → (bytes : List ℕ) → answer ≡ Ok bytes
+read_below : (b : ℕ) (known after : Option Remembered) (answer : Result (List ℕ) Refusal) (x z : Snapshot) → Reads b known after answer x z → (bytes : List ℕ) → answer ≡ Ok bytes
     → b < block_count x.member.array.geometry
 read_below b known _ _ _ _ (Reads.OutOf x past) bytes same = absurd (cc)
 read_below b known _ _ _ _ (Reads.Recalled one i j x is place) bytes same = place.below
@@ -62,16 +62,16 @@ read_below b known _ _ _ _ (Reads.Refused t i j into refusal x y z place cannot 
 
 -- WHAT STANDS
 
-pub loaded_array : (t : ℕ) (into : Stripe) (answer : Result (Unit {0}) Refusal) (y z : Point) → LoadsStripe t into answer y z → ¬ Stops answer
+pub loaded_array : (t : ℕ) (into : Stripe) (answer : Result (Unit {0}) Refusal) (y z : Snapshot) → LoadsStripe t into answer y z → ¬ Stops answer
     → IsArray (unopened y.member) → IsArray (unopened z.member)
 loaded_array t into _ _ _ (LoadsStripe.Loaded was read gathered answer y z loads is) going array =
-    left_array gathered.gone None (point y.member loads.mid) z loads.leaves refl array
+    left_array gathered.gone None (snapshot y.member loads.mid) z loads.leaves refl array
 loaded_array t into _ _ _ (LoadsStripe.Stops was read gathered fault y z loads) going array = absurd (going (final_refused fault))
 
 same_array : (m last : Membership) → last ≡ m → IsArray (unopened m) → IsArray (unopened last)
 same_array m last same = subst (λ (k : Membership). IsArray (unopened k)) (sym same)
 
-read_array : (b : ℕ) (known after : Option Remembered) (answer : Result (List ℕ) Refusal) (x z : Point) → Reads b known after answer x z → ¬ Stops answer → IsArray (unopened x.member)
+read_array : (b : ℕ) (known after : Option Remembered) (answer : Result (List ℕ) Refusal) (x z : Snapshot) → Reads b known after answer x z → ¬ Stops answer → IsArray (unopened x.member)
     → IsArray (unopened z.member)
 read_array b known _ _ _ _ (Reads.OutOf x past) going array = array
 read_array b known _ _ _ _ (Reads.Recalled one i j x is place) going array = array
@@ -83,17 +83,17 @@ read_array b known _ _ _ _ (Reads.Refused t i j into refusal x y z place cannot 
 
 -- ALL OF IT
 
-module _ (b : ℕ) (answer : Answer (ReadBlock b)) (m last : Membership) (rebuild : Option Rebuild) (known after : Option Remembered) (stopped : Option FenceFault) (old new : Telling)
-    (array : IsArray (running m rebuild known)) (does : Reads b known after answer (point m old) (point last new)) (kept : Keeps answer stopped) where
-  part : IsPart 0 (point m old) (point last new)
-  part = read_part b known after answer (point m old) (point last new) does array.member
+module _ (b : ℕ) (answer : Answer (ReadBlock b)) (m last : Membership) (rebuild : Option Rebuild) (known after : Option Remembered) (stopped : Option FenceFault) (old new : RackState)
+    (array : IsArray (running m rebuild known)) (does : Reads b known after answer (snapshot m old) (snapshot last new)) (kept : Keeps answer stopped) where
+  part : IsPart 0 (snapshot m old) (snapshot last new)
+  part = read_part b known after answer (snapshot m old) (snapshot last new) does array.member
 
   caused : (given : Answer (ReadBlock b)) → answer ≡ given → IfErr given (λ why. HasCause (ReadBlock b) why (running m rebuild known) last old new)
   caused (Ok bytes) same = tt
-  caused (Err why) same = read_caused rebuild known b after answer (point m old) (point last new) does array.member why same
+  caused (Err why) same = read_caused rebuild known b after answer (snapshot m old) (snapshot last new) does array.member why same
 
   allowed : (given : Answer (ReadBlock b)) → answer ≡ given → IsAllowed (ReadBlock b) given (running m rebuild known)
-  allowed (Ok bytes) same = read_below b known after answer (point m old) (point last new) does bytes same
+  allowed (Ok bytes) same = read_below b known after answer (snapshot m old) (snapshot last new) does bytes same
   allowed (Err why) same = tt
 
   pub read_performs : Performs (ReadBlock b) answer (events_of (ReadBlock b) answer m.array last.array)
@@ -107,18 +107,18 @@ module _ (b : ℕ) (answer : Answer (ReadBlock b)) (m last : Membership) (rebuil
     later = part.after.later;
     goes_on = member_goes_on m last rebuild known stopped old new array part (ReadBlock b);
     rebuild = progress_then after (keeps_progress m last rebuild known stopped old new array part);
-    draws_few = draws_few (ReadBlock b) (point m old) (point last new) part;
+    draws_few = draws_few (ReadBlock b) (snapshot m old) (snapshot last new) part;
     events_are = refl;
     caused = caused answer refl;
     allowed = allowed answer refl;
     array = λ going.
         array_then after
         (stands m last rebuild known stopped old new array part
-        (read_array b known after answer (point m old) (point last new) does going (bare m last rebuild known stopped old new array part)));
+        (read_array b known after answer (snapshot m old) (snapshot last new) does going (bare m last rebuild known stopped old new array part)));
     counted = tt;
     remembers = tt;
     does = does;
-    left_out = read_left_out b known after answer (point m old) (point last new) does;
+    left_out = read_left_out b known after answer (snapshot m old) (snapshot last new) does;
     made = λ honest. tt;
     repaired = λ honest. tt;
     looked = λ honest. tt;

@@ -12,7 +12,7 @@ use Rattle.stair_rack.specs.History.{Called, Happening, Read, SlotCall}
 use Rattle.stair_rack.specs.Reading.{IsReadOf, WasRead}
 use Rattle.stair_rack.specs.Sector.{Cell}
 use Rattle.stair_rack.specs.Stretch.{WasAnswered}
-use Rattle.stair_rack.specs.Telling.{Telling}
+use Rattle.stair_rack.specs.RackState.{RackState}
 use Rattle.stair_rack.specs.declared.rack.Got.{Got}
 use Rattle.stair_rack.specs.declared.rack.Got.TheVariants as got
 use Rattle.stair_rack.proofs.MomentLemmas.{IsThis, calls_ran, moment_between, ran_before, ran_none, ran_weakened}
@@ -26,8 +26,8 @@ use Rattle.stair_member.proofs.CountingLemmas.{has_or_not}
 use Rattle.stair_journal.proofs.ToldLemmas.{answered_cases}
 use Rattle.stair_stripes.specs.Gathering.{Gathers, IsAway, IsCellOf, IsReadOfCell}
 use Rattle.stair_stripes.specs.declared.gathering.Gathered.{Gathered}
-use Rattle.stair_session.specs.Courses.{Loads, Point, point}
-use Rattle.stair_session.specs.Session.{IsLiveIn, Remembered}
+use Rattle.stair_invariant.specs.Effects.{Loads, Snapshot, snapshot}
+use Rattle.stair_invariant.specs.Session.{IsLiveIn, Remembered}
 use Rattle.stair_array.specs.Calls.{AsksFor, CannotHave, LoadsStripe, NotLive, Reads, WasBad, WasGone}
 use Rattle.stair_array.specs.Machine.{Refusal}
 use Rattle.stair_array.specs.Promise.{IsAnsweredGone}
@@ -39,7 +39,7 @@ use Rattle.stair_array.proofs.ReadPartLemmas.{asked_ran}
 
 -- ITS PARTS
 
-pub asked_after : (t i j : ℕ) (answer : Got) (x y : Point) → AsksFor t i j answer x y → IsAfter x.told y.told
+pub asked_after : (t i j : ℕ) (answer : Got) (x y : Snapshot) → AsksFor t i j answer x y → IsAfter x.told y.told
 asked_after t i j answer x y asks =
     let k = cell_sector x.member.array.geometry t i in
     record {
@@ -49,46 +49,46 @@ asked_after t i j answer x y asks =
           (asked_ran t i j x y asks honest);
     }
 
-pub cannot_after : (t i j : ℕ) (x y : Point) → CannotHave t i j x y → IsAfter x.told y.told
-cannot_after t i j x y (NotLive out same) = subst (λ (p : Point). IsAfter x.told p.told) (sym same) (after_none x.told)
+pub cannot_after : (t i j : ℕ) (x y : Snapshot) → CannotHave t i j x y → IsAfter x.told y.told
+cannot_after t i j x y (NotLive out same) = subst (λ (p : Snapshot). IsAfter x.told p.told) (sym same) (after_none x.told)
 cannot_after t i j x y (WasBad asks bad) = asked_after t i j got.Bad x y asks
 cannot_after t i j x y (WasGone asks gone) = asked_after t i j got.Gone x y asks
 
-pub cannot_member : (t i j : ℕ) (x y : Point) → CannotHave t i j x y → y.member ≡ x.member
-cannot_member t i j x y (NotLive out same) = ap (λ (p : Point). p.member) same
+pub cannot_member : (t i j : ℕ) (x y : Snapshot) → CannotHave t i j x y → y.member ≡ x.member
+cannot_member t i j x y (NotLive out same) = ap (λ (p : Snapshot). p.member) same
 cannot_member t i j x y (WasBad asks bad) = asks.member
 cannot_member t i j x y (WasGone asks gone) = asks.member
 
-pub told_part : (x y : Point) → y.member ≡ x.member → IsAfter x.told y.told → IsMembership x.member → IsPart 0 x y
+pub told_part : (x y : Snapshot) → y.member ≡ x.member → IsAfter x.told y.told → IsMembership x.member → IsPart 0 x y
 told_part x y same after rules =
-    subst (λ (m : Membership). IsPart 0 x (point m y.told)) (sym same) (part_told x.member x.told y.told rules after)
+    subst (λ (m : Membership). IsPart 0 x (snapshot m y.told)) (sym same) (part_told x.member x.told y.told rules after)
 
-pub loaded_after : (t : ℕ) (into : Stripe) (answer : Result (Unit {0}) Refusal) (x y : Point) → LoadsStripe t into answer x y → IsAfter x.told y.told
+pub loaded_after : (t : ℕ) (into : Stripe) (answer : Result (Unit {0}) Refusal) (x y : Snapshot) → LoadsStripe t into answer x y → IsAfter x.told y.told
 loaded_after t into _ _ _ (LoadsStripe.Loaded was read gathered answer x y loads is) =
     after_join
     (gathers_after x.member.array.geometry loads.live t (IsCellOf x.member.array.geometry) gathered was read x.told loads.mid loads.gathers)
-    (out_after gathered.gone None (point x.member loads.mid) y loads.leaves)
+    (out_after gathered.gone None (snapshot x.member loads.mid) y loads.leaves)
 loaded_after t into _ _ _ (LoadsStripe.Stops was read gathered fault x y loads) =
     after_join
     (gathers_after x.member.array.geometry loads.live t (IsCellOf x.member.array.geometry) gathered was read x.told loads.mid loads.gathers)
-    (out_after gathered.gone (Some fault) (point x.member loads.mid) y loads.leaves)
+    (out_after gathered.gone (Some fault) (snapshot x.member loads.mid) y loads.leaves)
 
-pub loaded_part : (t : ℕ) (into : Stripe) (answer : Result (Unit {0}) Refusal) (x y : Point) → LoadsStripe t into answer x y
+pub loaded_part : (t : ℕ) (into : Stripe) (answer : Result (Unit {0}) Refusal) (x y : Snapshot) → LoadsStripe t into answer x y
     → IsMembership x.member → IsPart 0 x y
 loaded_part t into _ _ _ (LoadsStripe.Loaded was read gathered answer x y loads is) rules =
     load_part t (IsCellOf x.member.array.geometry) gathered was read None x y loads rules
 loaded_part t into _ _ _ (LoadsStripe.Stops was read gathered fault x y loads) rules =
     load_part t (IsCellOf x.member.array.geometry) gathered was read (Some fault) x y loads rules
 
-pub cannot_part : (t i j : ℕ) (x y : Point) → CannotHave t i j x y → IsMembership x.member → IsPart 0 x y
+pub cannot_part : (t i j : ℕ) (x y : Snapshot) → CannotHave t i j x y → IsMembership x.member → IsPart 0 x y
 cannot_part t i j x y cannot = told_part x y (cannot_member t i j x y cannot) (cannot_after t i j x y cannot)
 
-stripe_part : (t i j : ℕ) (into : Stripe) (answer : Result (Unit {0}) Refusal) (x y z : Point) → CannotHave t i j x y
+stripe_part : (t i j : ℕ) (into : Stripe) (answer : Result (Unit {0}) Refusal) (x y z : Snapshot) → CannotHave t i j x y
     → LoadsStripe t into answer y z → IsMembership x.member → IsPart 0 x z
 stripe_part t i j into answer x y z cannot loads rules =
     let first = cannot_part t i j x y cannot rules in part_join 0 0 x y z first (loaded_part t into answer y z loads first.rules)
 
-pub read_part : (b : ℕ) (old after : Option Remembered) (answer : Result (List ℕ) Refusal) (x z : Point) → Reads b old after answer x z → IsMembership x.member → IsPart 0 x z
+pub read_part : (b : ℕ) (old after : Option Remembered) (answer : Result (List ℕ) Refusal) (x z : Snapshot) → Reads b old after answer x z → IsMembership x.member → IsPart 0 x z
 read_part b old _ _ _ _ (Reads.OutOf x past) rules = part_none x rules
 read_part b old _ _ _ _ (Reads.Recalled one i j x known place) rules = part_none x rules
 read_part b old _ _ _ _ (Reads.Own t i j bytes x y place asks reading) rules = told_part x y asks.member (asked_after t i j got.Good x y asks) rules
@@ -104,7 +104,7 @@ read_is g live t wanted j c is gone =
     (cell_sector g t is.row, is.is ∙ ap (λ (a : Got). Read (cell_sector g t is.row) a) same)
 
 -- each slot that answers gone as a stripe is gathered is left out
-pub load_left_out : (t : ℕ) (wanted : ℕ → ℕ → Type 0) (gathered : Gathered) (was into : Stripe) (refusal : Option FenceFault) (x y : Point)
+pub load_left_out : (t : ℕ) (wanted : ℕ → ℕ → Type 0) (gathered : Gathered) (was into : Stripe) (refusal : Option FenceFault) (x y : Snapshot)
     → Loads t wanted gathered was into refusal x y → IsTrue y.told.honest → IsLeftOut x y
 load_left_out t wanted gathered was into refusal x y loads =
     out_left_out gathered.gone refusal x y loads.mid
@@ -121,7 +121,7 @@ load_left_out t wanted gathered was into refusal x y loads =
 -- A CELL THAT WAS ASKED FOR
 
 -- its slot alone answered, and so
-asked_answers : (t i j : ℕ) (answer : Got) (x y : Point) → AsksFor t i j answer x y → IsTrue y.told.honest → (s : ℕ) (call : SlotCall)
+asked_answers : (t i j : ℕ) (answer : Got) (x y : Snapshot) → AsksFor t i j answer x y → IsTrue y.told.honest → (s : ℕ) (call : SlotCall)
     → WasAnswered s call x.told.history y.told.history → IsAnsweredGone call → (s ≡ j) × (answer ≡ got.Gone)
 asked_answers t i j answer x y asks honest s call was gone =
     let k = cell_sector x.member.array.geometry t i in
@@ -145,7 +145,7 @@ never_read Q old new j k beside unready was =
     false≢true (sym still ∙ was.ready)
 
 -- and it is gone to the gathering too
-gone_again : (g : Geometry) (live : Slots) (t : ℕ) (gathered : Gathered) (was into : Stripe) (old new : Telling)
+gone_again : (g : Geometry) (live : Slots) (t : ℕ) (gathered : Gathered) (was into : Stripe) (old new : RackState)
     → Gathers g live t (IsCellOf g) gathered was into old new → IsTrue new.honest → (i j : ℕ) → i < g.r → j < g.n → HasSlot live j
     → is_ready old.history j ≡ false → HasSlot gathered.gone j
 gone_again g live t gathered was into old new gathers honest i j row slot on unready =
@@ -170,19 +170,19 @@ gone_again g live t gathered was into old new gathers honest i j row slot on unr
 
 -- WHO IS LEFT OUT
 
-own_left_out : (t i j : ℕ) (x y : Point) → AsksFor t i j got.Good x y → IsTrue y.told.honest → IsLeftOut x y
+own_left_out : (t i j : ℕ) (x y : Snapshot) → AsksFor t i j got.Good x y → IsTrue y.told.honest → IsLeftOut x y
 own_left_out t i j x y asks honest s call here was gone =
     let never : got.Good ≡ got.Gone = (asked_answers t i j got.Good x y asks honest s call was gone).1 in absurd (cc)
 
 -- a cell couldn't be had, and its stripe was gathered
-module _ (t i j : ℕ) (gathered : Gathered) (was read : Stripe) (refusal : Option FenceFault) (x y z : Point) (cannot : CannotHave t i j x y)
+module _ (t i j : ℕ) (gathered : Gathered) (was read : Stripe) (refusal : Option FenceFault) (x y z : Snapshot) (cannot : CannotHave t i j x y)
     (row : i < x.member.array.geometry.r) (loads : Loads t (IsCellOf y.member.array.geometry) gathered was read refusal y z)
     (honest : IsTrue z.told.honest) where
   same : y.member ≡ x.member
   same = cannot_member t i j x y cannot
 
   honest_mid : IsTrue loads.mid.honest
-  honest_mid = honest_before loads.mid z.told (out_after gathered.gone refusal (point y.member loads.mid) z loads.leaves) honest
+  honest_mid = honest_before loads.mid z.told (out_after gathered.gone refusal (snapshot y.member loads.mid) z loads.leaves) honest
 
   honest_y : IsTrue y.told.honest
   honest_y = subst IsTrue (sym loads.gathers.honest) honest_mid
@@ -202,12 +202,12 @@ module _ (t i j : ℕ) (gathered : Gathered) (was read : Stripe) (refusal : Opti
       → IsAnsweredGone call → why_of z.member s ≡ why.Gone
   sooner (NotLive out at) s call here answered gone =
       absurd
-      (never_answered s call x.told.history (subst (λ (p : Point). WasAnswered s call x.told.history p.told.history) at answered))
+      (never_answered s call x.told.history (subst (λ (p : Snapshot). WasAnswered s call x.told.history p.told.history) at answered))
   sooner (WasBad asks bad) s call here answered gone =
       let never : got.Bad ≡ got.Gone = (asked_answers t i j got.Bad x y asks honest_y s call answered gone).1 in absurd (cc)
   sooner (WasGone asks lost) s call here answered gone =
       let at : s ≡ j = (asked_answers t i j got.Gone x y asks honest_y s call answered gone).0 in
-      out_gone gathered.gone refusal (point y.member loads.mid) z loads.leaves s (subst (HasSlot gathered.gone) (sym at) (gone_then asks)) here.below
+      out_gone gathered.gone refusal (snapshot y.member loads.mid) z loads.leaves s (subst (HasSlot gathered.gone) (sym at) (gone_then asks)) here.below
 
   stripe_left_out : IsLeftOut x z
   stripe_left_out s call here answered gone =
@@ -221,16 +221,16 @@ module _ (t i j : ℕ) (gathered : Gathered) (was read : Stripe) (refusal : Opti
       ]
     where
       load_after : IsAfter y.told z.told
-      load_after = after_join to_mid (out_after gathered.gone refusal (point y.member loads.mid) z loads.leaves)
+      load_after = after_join to_mid (out_after gathered.gone refusal (snapshot y.member loads.mid) z loads.leaves)
 
-loaded_left_out : (t i j : ℕ) (into : Stripe) (answer : Result (Unit {0}) Refusal) (x y z : Point) → CannotHave t i j x y
+loaded_left_out : (t i j : ℕ) (into : Stripe) (answer : Result (Unit {0}) Refusal) (x y z : Snapshot) → CannotHave t i j x y
     → i < x.member.array.geometry.r → LoadsStripe t into answer y z → IsTrue z.told.honest → IsLeftOut x z
 loaded_left_out t i j into _ x _ _ cannot row (LoadsStripe.Loaded was read gathered answer y z loads is) honest =
     stripe_left_out t i j gathered was read None x y z cannot row loads honest
 loaded_left_out t i j into _ x _ _ cannot row (LoadsStripe.Stops was read gathered fault y z loads) honest =
     stripe_left_out t i j gathered was read (Some fault) x y z cannot row loads honest
 
-pub read_left_out : (b : ℕ) (old after : Option Remembered) (answer : Result (List ℕ) Refusal) (x z : Point) → Reads b old after answer x z → IsTrue z.told.honest → IsLeftOut x z
+pub read_left_out : (b : ℕ) (old after : Option Remembered) (answer : Result (List ℕ) Refusal) (x z : Snapshot) → Reads b old after answer x z → IsTrue z.told.honest → IsLeftOut x z
 read_left_out b old _ _ _ _ (Reads.OutOf x past) honest = λ j call here was gone. absurd (never_answered j call x.told.history was)
 read_left_out b old _ _ _ _ (Reads.Recalled one i j x known place) honest =
     λ s call here was gone. absurd (never_answered s call x.told.history was)

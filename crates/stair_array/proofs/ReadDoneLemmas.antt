@@ -13,11 +13,11 @@ use Rattle.stair_member.specs.declared.fault.FenceFault.TheVariants as fence
 use Rattle.stair_stripes.specs.declared.gathering.Gathered.{Gathered}
 use Rattle.stair_state.specs.Blocks.{Codewords}
 use Rattle.stair_state.specs.State.{Content, State}
-use Rattle.stair_session.specs.Courses.{Point, point}
-use Rattle.stair_session.specs.Rebuilding.{Rebuild}
-use Rattle.stair_session.specs.Returning.{IsCalm, Returning}
-use Rattle.stair_session.specs.Session.{Remembered}
-use Rattle.stair_session.proofs.Serving.{IsServing, LeadsReads, IsCalmTo}
+use Rattle.stair_invariant.specs.Effects.{Snapshot, snapshot}
+use Rattle.stair_invariant.specs.Rebuilding.{Rebuild}
+use Rattle.stair_invariant.specs.Returning.{StaysWithinTolerance, Returning}
+use Rattle.stair_invariant.specs.Session.{Remembered}
+use Rattle.stair_invariant.proofs.Serving.{IsServing, LeadsReads, StaysWithinToleranceTo}
 use Rattle.stair_array.specs.Calls.{IsInPlace, IsLoaded, LoadsStripe, Reads, refused}
 use Rattle.stair_array.specs.Machine.{Answer, ReadBlock, Refusal}
 use Rattle.stair_array.specs.Promise.{CanBeDone, IsInState, LeadsStep, Performs, Seen, is_open}
@@ -29,10 +29,10 @@ use Rattle.stair_array.proofs.ReadStepLemmas.{begins, calm_begun, cuts, leads, s
 -- NOTHING IS REFUSED but an epoch of which no number is left to draw
 
 module _ (returning : Returning) (laws : LeadsReads returning) (before : List Happening) (rebuild : Option Rebuild) (stopped : Option FenceFault)
-    (words : Codewords) (kept : Content) (x : Point)
+    (words : Codewords) (kept : Content) (x : Snapshot)
     (is : IsServing returning before (array_with rebuild stopped x) words kept x.told.history) where
-  pub load_refused : (t : ℕ) {wanted : ℕ → ℕ → Type 0} (gathered : Gathered) (read : Stripe) (fault : FenceFault) (z : Point)
-      → HasLoaded t wanted gathered read (Some fault) x z → IsTrue z.told.honest → IsCalmTo returning x.member.array.geometry before z.told.history
+  pub load_refused : (t : ℕ) {wanted : ℕ → ℕ → Type 0} (gathered : Gathered) (read : Stripe) (fault : FenceFault) (z : Snapshot)
+      → HasLoaded t wanted gathered read (Some fault) x z → IsTrue z.told.honest → StaysWithinToleranceTo returning x.member.array.geometry before z.told.history
       → refused fault ≡ refused fence.EpochsSpent
   load_refused t gathered read fault z l honest calm = by fault refl
     where
@@ -43,8 +43,8 @@ module _ (returning : Returning) (laws : LeadsReads returning) (before : List Ha
           (ap (λ (f : FenceFault). Some f) few))
       by fence.EpochsSpent spent = ap refused spent
 
-  pub stripe_refused : (t : ℕ) (into : Stripe) (y : Point) → HasAsked x y → t < x.member.array.geometry.stripes → (answer : Result (Unit {0}) Refusal)
-      (u z : Point) → LoadsStripe t into answer u z → u ≡ y → IsTrue z.told.honest → IsCalmTo returning x.member.array.geometry before z.told.history
+  pub stripe_refused : (t : ℕ) (into : Stripe) (y : Snapshot) → HasAsked x y → t < x.member.array.geometry.stripes → (answer : Result (Unit {0}) Refusal)
+      (u z : Snapshot) → LoadsStripe t into answer u z → u ≡ y → IsTrue z.told.honest → StaysWithinToleranceTo returning x.member.array.geometry before z.told.history
       → (refusal : Refusal) → answer ≡ Err refusal → refusal ≡ refused fence.EpochsSpent
   stripe_refused t into y asked stripe _ _ _ (LoadsStripe.Loaded was read gathered answer u z loads loaded) at honest calm refusal same =
       let now = subst (HasAsked x) (sym at) asked in
@@ -59,18 +59,18 @@ module _ (returning : Returning) (laws : LeadsReads returning) (before : List Ha
       sym one
       ∙ load_refused t gathered read fault z (whole_loaded t gathered was read (Some fault) x u z (subst (HasAsked x) (sym at) asked) loads) honest calm
 
-  pub only_spent : (b : ℕ) (old after : Option Remembered) (answer : Result (List ℕ) Refusal) (v z : Point) → Reads b old after answer v z → v ≡ x → IsTrue z.told.honest
-      → IsCalmTo returning x.member.array.geometry before z.told.history → b < block_count x.member.array.geometry → (refusal : Refusal)
+  pub only_spent : (b : ℕ) (old after : Option Remembered) (answer : Result (List ℕ) Refusal) (v z : Snapshot) → Reads b old after answer v z → v ≡ x → IsTrue z.told.honest
+      → StaysWithinToleranceTo returning x.member.array.geometry before z.told.history → b < block_count x.member.array.geometry → (refusal : Refusal)
       → answer ≡ Err refusal → refusal ≡ refused fence.EpochsSpent
   only_spent b old _ _ _ _ (Reads.OutOf v past) at honest calm inside refusal same =
-      let out : block_count x.member.array.geometry ≤ b = subst (λ (p : Point). block_count p.member.array.geometry ≤ b) at past in
+      let out : block_count x.member.array.geometry ≤ b = subst (λ (p : Snapshot). block_count p.member.array.geometry ≤ b) at past in
       absurd (omega (arith, inside, out))
   only_spent b old _ _ _ _ (Reads.Recalled one i j v known place) at honest calm inside refusal same = absurd (cc)
   only_spent b old _ _ _ _ (Reads.Own t i j bytes v y place asks reading) at honest calm inside refusal same = absurd (cc)
   only_spent b old _ _ _ _ (Reads.Restored t i j into v y z place cannot loads) at honest calm inside refusal same = absurd (cc)
   only_spent b old _ _ _ _ (Reads.Refused t i j into lost v y z place cannot loads) at honest calm inside refusal same =
-      let asked : HasAsked x y = subst (λ (p : Point). HasAsked p y) at (has_asked t i j v y cannot) in
-      let here = subst (λ (p : Point). IsInPlace p.member.array.geometry b t i j) at place in
+      let asked : HasAsked x y = subst (λ (p : Snapshot). HasAsked p y) at (has_asked t i j v y cannot) in
+      let here = subst (λ (p : Snapshot). IsInPlace p.member.array.geometry b t i j) at place in
       stripe_refused t into y asked (placed_in x.member.array.geometry b t i j is.is_open.array.member.array.limits inside here.place)
       (Err lost) y z loads refl honest calm refusal (ap (λ (r : Refusal). Err r) (let one : lost ≡ refusal = cc in one))
 
@@ -79,13 +79,13 @@ module _ (returning : Returning) (laws : LeadsReads returning) (before : List Ha
 module _ (returning : Returning) (laws : LeadsReads returning) (b : ℕ) (answer : Answer (ReadBlock b)) (events : List Event) (x y : Seen)
     (p : Performs (ReadBlock b) answer events x y)
     (honest : IsTrue y.told.honest) (before : List Happening) (s : State) (history : IsHistory x.told.history) (state : IsInState returning before s x)
-    (calm : IsCalm returning s.geometry (is_open x.session) before y.told.history) where
+    (calm : StaysWithinTolerance returning s.geometry (is_open x.session) before y.told.history) where
   pub none_refused : b < block_count s.geometry → (refusal : Refusal) → answer ≡ Err refusal → refusal ≡ refused fence.EpochsSpent
   none_refused below refusal same =
       only_spent returning laws before p.was.rebuild p.was.stopped (begins returning laws b answer events x y p honest before s history state).words
       s.content
-      (point p.was.member x.told) (serves returning laws b answer events x y p honest before s history state) b p.was.remembered p.is.remembered answer
-      (point p.was.member x.told) (point p.is.member y.told) p.does refl honest
+      (snapshot p.was.member x.told) (serves returning laws b answer events x y p honest before s history state) b p.was.remembered p.is.remembered answer
+      (snapshot p.was.member x.told) (snapshot p.is.member y.told) p.does refl honest
       (calm_begun returning laws b answer events x y p honest before s history state y.told.history calm)
       (subst (λ (g : Geometry). b < block_count g) (sym (begins returning laws b answer events x y p honest before s history state).geometry) below)
       refusal same

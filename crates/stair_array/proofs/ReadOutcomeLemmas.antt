@@ -11,12 +11,12 @@ use Rattle.stair_member.specs.declared.fault.FenceFault.{FenceFault}
 use Rattle.stair_state.specs.Blocks.{Codewords}
 use Rattle.stair_state.specs.State.{Content}
 use Rattle.stair_state.proofs.BlockLemmas as blocks
-use Rattle.stair_session.specs.Courses.{Point}
-use Rattle.stair_session.specs.Rebuilding.{Rebuild}
-use Rattle.stair_session.specs.Returning.{Returning}
-use Rattle.stair_session.specs.Session.{IsRememberedIn, Remembered}
-use Rattle.stair_session.proofs.Serving.{any_read, LeadsReads, IsCalmTo}
-use Rattle.stair_session.proofs.Mending.{calm_going}
+use Rattle.stair_invariant.specs.Effects.{Snapshot}
+use Rattle.stair_invariant.specs.Rebuilding.{Rebuild}
+use Rattle.stair_invariant.specs.Returning.{Returning}
+use Rattle.stair_invariant.specs.Session.{IsRememberedIn, Remembered}
+use Rattle.stair_invariant.proofs.Serving.{any_read, LeadsReads, StaysWithinToleranceTo}
+use Rattle.stair_invariant.proofs.Mending.{calm_going}
 use Rattle.stair_array.specs.Calls.{Reads, refused}
 use Rattle.stair_array.specs.Machine.{IsFinal, Refusal}
 use Rattle.stair_array.proofs.KeptStepLemmas.{Gives, Lacks, Outcome, Stops}
@@ -28,7 +28,7 @@ use Rattle.stair_array.proofs.ReadPartLemmas.{array_with, asked_of, has_asked, p
 use Rattle.stair_array.proofs.ServingLemmas.{read_good}
 
 -- what is asked of a block before it is read, and what is read of it
-abbrev pub IsInside : ℕ → Point → Type 0
+abbrev pub IsInside : ℕ → Snapshot → Type 0
 IsInside b x = b < block_count x.member.array.geometry
 
 abbrev pub IsBlock : ℕ → Content → List ℕ → Type 0
@@ -37,41 +37,41 @@ IsBlock b kept bytes = bytes ≡ kept.blocks b
 module _ (returning : Returning) (laws : LeadsReads returning) (before : List Happening) (rebuild : Option Rebuild) (stopped : Option FenceFault)
     (words : Codewords) (kept : Content) where
   module _ (b : ℕ) where
-    abbrev pub ReadOutcome : Point → Result (List ℕ) Refusal → Point → Type 0
+    abbrev pub ReadOutcome : Snapshot → Result (List ℕ) Refusal → Snapshot → Type 0
     ReadOutcome x answer y = Outcome returning before rebuild stopped words kept x (List ℕ) (IsInside b x) (IsBlock b kept) answer y
 
-    abbrev ServesAt : Point → List Happening → Type 0
+    abbrev ServesAt : Snapshot → List Happening → Type 0
     ServesAt x h = Serves returning before rebuild stopped words kept x h
 
-    abbrev CalmAt : Point → List Happening → Type 0
-    CalmAt x h = IsCalmTo returning x.member.array.geometry before h
+    abbrev CalmAt : Snapshot → List Happening → Type 0
+    CalmAt x h = StaysWithinToleranceTo returning x.member.array.geometry before h
 
     -- by its stripe, which was loaded
-    module _ (x : Point) (inside : b < block_count x.member.array.geometry) (t : ℕ) (into : Stripe) (u : Point)
+    module _ (x : Snapshot) (inside : b < block_count x.member.array.geometry) (t : ℕ) (into : Stripe) (u : Snapshot)
         (honest : IsTrue u.told.honest) (calm : CalmAt x u.told.history) where
-      abbrev Loading : Result (Unit {0}) Refusal → Point → Type 0
+      abbrev Loading : Result (Unit {0}) Refusal → Snapshot → Type 0
       Loading = Comes returning before rebuild stopped words kept (into ≡ words t) x
 
-      was_had : (bytes : List ℕ) → (into ≡ words t → bytes ≡ kept.blocks b) → (answer : Result (Unit {0}) Refusal) (z : Point) → Loading answer z
+      was_had : (bytes : List ℕ) → (into ≡ words t → bytes ≡ kept.blocks b) → (answer : Result (Unit {0}) Refusal) (z : Snapshot) → Loading answer z
           → answer ≡ Ok tt → ReadOutcome x (Ok bytes) z
       was_had bytes right _ _ (Comes.Has z serves stays live same) fine = Gives bytes z serves stays inside (right same)
       was_had bytes right _ _ (Comes.Lacks refusal z serves stays not_final) fine = absurd (cc)
       was_had bytes right _ _ (Comes.Stops fault z at) fine = absurd (cc)
 
-      was_refused : (refusal : Refusal) (answer : Result (Unit {0}) Refusal) (z : Point) → Loading answer z → z ≡ u → answer ≡ Err refusal
+      was_refused : (refusal : Refusal) (answer : Result (Unit {0}) Refusal) (z : Snapshot) → Loading answer z → z ≡ u → answer ≡ Err refusal
           → ReadOutcome x (Err refusal) z
       was_refused refusal _ _ (Comes.Has z serves stays live same) ends fine = absurd (cc)
       was_refused refusal _ _ (Comes.Lacks other z serves stays not_final) ends fine =
           Lacks refusal z serves stays (λ final. not_final (subst IsFinal (let one : refusal ≡ other = cc in one) final))
       was_refused refusal _ _ (Comes.Stops fault z at) ends fine =
           let stands =
-          refused_stands returning laws before words kept x.member fault z at (subst (λ (p : Point). IsTrue p.told.honest) (sym ends) honest)
-          (subst (λ (p : Point). CalmAt x p.told.history) (sym ends) calm) in
+          refused_stands returning laws before words kept x.member fault z at (subst (λ (p : Snapshot). IsTrue p.told.honest) (sym ends) honest)
+          (subst (λ (p : Snapshot). CalmAt x p.told.history) (sym ends) calm) in
           subst (λ (r : Refusal). ReadOutcome x (Err r) z) (let one : refused fault ≡ refusal = cc in one) (Stops fault z inside stands)
 
     -- ALL OF IT
 
-    pub moments : (old after : Option Remembered) (answer : Result (List ℕ) Refusal) (x z : Point) → Reads b old after answer x z → ServesAt x x.told.history → IsTrue z.told.honest
+    pub moments : (old after : Option Remembered) (answer : Result (List ℕ) Refusal) (x z : Snapshot) → Reads b old after answer x z → ServesAt x x.told.history → IsTrue z.told.honest
         → AtEveryMoment (StandsAt returning before x.member kept) x.told.history z.told.history
     moments old _ _ _ _ (Reads.OutOf x past) is honest =
         at_every_none {P = StandsAt returning before x.member kept} x.told.history
@@ -87,7 +87,7 @@ module _ (returning : Returning) (laws : LeadsReads returning) (before : List Ha
     moments old _ _ _ _ (Reads.Refused t i j into refusal x y z place cannot loads) is honest =
         stripe_moments returning laws before rebuild stopped words kept x is t into y (has_asked t i j x y cannot) (Err refusal) y z loads refl honest
 
-    pub outcome : (old after : Option Remembered) (answer : Result (List ℕ) Refusal) (x z : Point) → Reads b old after answer x z → IsRememberedIn words old → ServesAt x x.told.history → IsTrue z.told.honest
+    pub outcome : (old after : Option Remembered) (answer : Result (List ℕ) Refusal) (x z : Snapshot) → Reads b old after answer x z → IsRememberedIn words old → ServesAt x x.told.history → IsTrue z.told.honest
         → CalmAt x z.told.history → ReadOutcome x answer z
     outcome old _ _ _ _ (Reads.OutOf x past) kept_in is honest calm =
         Lacks _ x
@@ -139,7 +139,7 @@ module _ (returning : Returning) (laws : LeadsReads returning) (before : List Ha
         (calm_going returning x.member.array.geometry before z.told.history (ran_join {allowed = any_call} is.is_open.ran ran) calm)) refl refl
 
     -- and what is remembered then is of the stripes that it serves, as what was remembered before
-    pub remembers : (old after : Option Remembered) (answer : Result (List ℕ) Refusal) (x z : Point) → Reads b old after answer x z
+    pub remembers : (old after : Option Remembered) (answer : Result (List ℕ) Refusal) (x z : Snapshot) → Reads b old after answer x z
         → IsRememberedIn words old → ServesAt x x.told.history → IsTrue z.told.honest → CalmAt x z.told.history → IsRememberedIn words after
     remembers old _ _ _ _ (Reads.OutOf x past) kept_in is honest calm = kept_in
     remembers old _ _ _ _ (Reads.Recalled one i j x known place) kept_in is honest calm = kept_in
@@ -153,7 +153,7 @@ module _ (returning : Returning) (laws : LeadsReads returning) (before : List Ha
         (stripe_comes returning laws before rebuild stopped words kept x is t into y (has_asked t i j x y cannot) stripe (Ok tt) y z loads refl honest
         (calm_going returning x.member.array.geometry before z.told.history (ran_join {allowed = any_call} is.is_open.ran ran) calm)) refl
       where
-        was_restored : (answer : Result (Unit {0}) Refusal) (u : Point) → Comes returning before rebuild stopped words kept (into ≡ words t) x answer u
+        was_restored : (answer : Result (Unit {0}) Refusal) (u : Snapshot) → Comes returning before rebuild stopped words kept (into ≡ words t) x answer u
             → answer ≡ Ok tt → into ≡ words t
         was_restored _ _ (Comes.Has u serves stays live same) fine = same
         was_restored _ _ (Comes.Lacks refusal u serves stays not_final) fine = absurd (cc)

@@ -14,7 +14,7 @@ use Rattle.stair_rack.specs.Moments.{AtEveryMoment}
 use Rattle.stair_rack.specs.Offline.{IsOfflineUntilAttached}
 use Rattle.stair_rack.specs.Reading.{IsReadOf}
 use Rattle.stair_rack.specs.Sector.{Good}
-use Rattle.stair_rack.specs.Telling.{IsReading, Telling}
+use Rattle.stair_rack.specs.RackState.{IsReading, RackState}
 use Rattle.stair_rack.specs.declared.rack.Got.{Got}
 use Rattle.stair_rack.proofs.MomentLemmas.{IsThis, at_every_from, at_every_join, at_moment, calls_ran, moment_between, ran_any, ran_before, ran_join, ran_none, ran_weakened}
 use Rattle.stair_rack.proofs.OfflineLemmas.{held_on}
@@ -25,16 +25,16 @@ use Rattle.stair_stripes.specs.Gathering.{Gathers, IsCellOf, IsReadOfCell}
 use Rattle.stair_stripes.specs.declared.gathering.Gathered.{Gathered}
 use Rattle.stair_state.specs.Blocks.{Codewords}
 use Rattle.stair_state.specs.State.{Content}
-use Rattle.stair_session.specs.Courses.{AreLive, LeavesOut, Loads, Point, point}
-use Rattle.stair_session.specs.Opening.{StaysArray}
-use Rattle.stair_session.specs.Rebuilding.{Rebuild}
-use Rattle.stair_session.specs.Returning.{Returning}
-use Rattle.stair_session.specs.Session.{ArrayState, IsLiveIn}
-use Rattle.stair_session.proofs.HonestLemmas.{left_honest}
-use Rattle.stair_session.proofs.RedoingLemmas.{out_ran}
-use Rattle.stair_session.proofs.Serving.{IsCalmTo, IsGoing, IsServing, calm_sooner, any_read, LeadsReads}
-use Rattle.stair_session.proofs.StaysArrayLemmas.{left_stays}
-use Rattle.stair_session.proofs.Mending.{calm_going}
+use Rattle.stair_invariant.specs.Effects.{AreLive, FencesGone, Loads, Snapshot, snapshot}
+use Rattle.stair_invariant.specs.Opening.{StaysArray}
+use Rattle.stair_invariant.specs.Rebuilding.{Rebuild}
+use Rattle.stair_invariant.specs.Returning.{Returning}
+use Rattle.stair_invariant.specs.Session.{ArrayState, IsLiveIn}
+use Rattle.stair_invariant.proofs.HonestLemmas.{left_honest}
+use Rattle.stair_invariant.proofs.RedoingLemmas.{out_ran}
+use Rattle.stair_invariant.proofs.Serving.{StaysWithinToleranceTo, IsGoing, IsServing, calm_sooner, any_read, LeadsReads}
+use Rattle.stair_invariant.proofs.StaysArrayLemmas.{left_stays}
+use Rattle.stair_invariant.proofs.Mending.{calm_going}
 use Rattle.stair_array.specs.Calls.{AsksFor, CannotHave, IsLoaded, NotLive, WasBad, WasGone}
 use Rattle.stair_array.proofs.LeftServingLemmas.{StandsAt, leaving_stands, reading_stands}
 use Rattle.stair_array.proofs.ServingLemmas.{going_sooner, read_good}
@@ -62,55 +62,55 @@ any_gathered g live t wanted ran =
     ran_weakened {allowed = IsReadOfCell g live t wanted} {more = any_read} (λ j c may. subst (any_read j) (sym may.is) (tt, tt)) ran
 
 -- what couldn't be had was asked for at most
-pub record HasAsked (x y : Point) : Type 0 where
+pub record HasAsked (x y : Snapshot) : Type 0 where
   pub member : y.member ≡ x.member
   pub honest : x.told.honest ≡ y.told.honest
   pub ran : IsTrue y.told.honest → Ran any_read x.told.history y.told.history
 
 -- it is a read of the cell
-pub asked_ran : {answer : Got} (t i j : ℕ) (x y : Point) → AsksFor t i j answer x y → IsTrue y.told.honest
+pub asked_ran : {answer : Got} (t i j : ℕ) (x y : Snapshot) → AsksFor t i j answer x y → IsTrue y.told.honest
     → Ran (IsReadOf (λ s. s ≡ j) (λ k. k ≡ cell_sector x.member.array.geometry t i)) x.told.history y.told.history
 asked_ran {answer} t i j x y asks honest =
     let k = cell_sector x.member.array.geometry t i in
     ran_weakened {allowed = IsThis j (Read k answer)} {more = IsReadOf (λ s. s ≡ j) (λ s. s ≡ k)}
     (λ a c this. subst (IsReadOf (λ s. s ≡ j) (λ s. s ≡ k) a) (sym this.1) (this.0, refl)) (calls_ran (asks.called honest))
 
-pub asked_of : {answer : Got} (t i j : ℕ) (x y : Point) → AsksFor t i j answer x y → HasAsked x y
+pub asked_of : {answer : Got} (t i j : ℕ) (x y : Snapshot) → AsksFor t i j answer x y → HasAsked x y
 asked_of t i j x y asks = record {
   member = asks.member;
   honest = asks.later.honest;
   ran = λ honest. any_of (λ s. s ≡ j) (λ k. k ≡ cell_sector x.member.array.geometry t i) (asked_ran t i j x y asks honest);
 }
 
-pub has_asked : (t i j : ℕ) (x y : Point) → CannotHave t i j x y → HasAsked x y
+pub has_asked : (t i j : ℕ) (x y : Snapshot) → CannotHave t i j x y → HasAsked x y
 has_asked t i j x y (NotLive out same) = record {
-  member = ap (λ (p : Point). p.member) same;
-  honest = sym (ap (λ (p : Point). p.told.honest) same);
-  ran = λ honest. subst (λ (p : Point). Ran any_read x.told.history p.told.history) (sym same) (ran_none {allowed = any_read} x.told.history);
+  member = ap (λ (p : Snapshot). p.member) same;
+  honest = sym (ap (λ (p : Snapshot). p.told.honest) same);
+  ran = λ honest. subst (λ (p : Snapshot). Ran any_read x.told.history p.told.history) (sym same) (ran_none {allowed = any_read} x.told.history);
 }
 has_asked t i j x y (WasBad asks bad) = asked_of t i j x y asks
 has_asked t i j x y (WasGone asks gone) = asked_of t i j x y asks
 
 -- Wanted cells of a stripe were gathered by this member, after reads, and the slots that were gone are left out.
-pub record HasLoaded (t : ℕ) (wanted : ℕ → ℕ → Type 0) (gathered : Gathered) (read : Stripe) (refusal : Option FenceFault) (x z : Point)
+pub record HasLoaded (t : ℕ) (wanted : ℕ → ℕ → Type 0) (gathered : Gathered) (read : Stripe) (refusal : Option FenceFault) (x z : Snapshot)
     : Type 0 where
   pub live : Slots
   pub are_live : AreLive x.member live
   pub was : Stripe
-  pub first : Telling
-  pub mid : Telling
+  pub first : RackState
+  pub mid : RackState
   pub first_honest : x.told.honest ≡ first.honest
   pub first_ran : IsTrue first.honest → Ran any_read x.told.history first.history
   pub inside : (i j : ℕ) → wanted i j → IsCellOf x.member.array.geometry i j
   pub gathers : Gathers x.member.array.geometry live t wanted gathered was read first mid
-  pub leaves : LeavesOut gathered.gone refusal (point x.member mid) z
+  pub leaves : FencesGone gathered.gone refusal (snapshot x.member mid) z
 
-pub has_loaded : (t : ℕ) (wanted : ℕ → ℕ → Type 0) (gathered : Gathered) (was read : Stripe) (refusal : Option FenceFault) (x y z : Point)
+pub has_loaded : (t : ℕ) (wanted : ℕ → ℕ → Type 0) (gathered : Gathered) (was read : Stripe) (refusal : Option FenceFault) (x y z : Snapshot)
     → HasAsked x y → ((i j : ℕ) → wanted i j → IsCellOf x.member.array.geometry i j) → Loads t wanted gathered was read refusal y z
     → HasLoaded t wanted gathered read refusal x z
 has_loaded t wanted gathered was read refusal x y z asked inside loads =
-    let now : Loads t wanted gathered was read refusal (point x.member y.told) z =
-    subst (λ (m : Membership). Loads t wanted gathered was read refusal (point m y.told) z) asked.member loads in
+    let now : Loads t wanted gathered was read refusal (snapshot x.member y.told) z =
+    subst (λ (m : Membership). Loads t wanted gathered was read refusal (snapshot m y.told) z) asked.member loads in
     record {
       live = now.live;
       are_live = now.are_live;
@@ -125,7 +125,7 @@ has_loaded t wanted gathered was read refusal x y z asked inside loads =
     }
 
 -- so was a whole stripe
-pub whole_loaded : (t : ℕ) (gathered : Gathered) (was read : Stripe) (refusal : Option FenceFault) (x y z : Point) → HasAsked x y
+pub whole_loaded : (t : ℕ) (gathered : Gathered) (was read : Stripe) (refusal : Option FenceFault) (x y z : Snapshot) → HasAsked x y
     → Loads t (IsCellOf y.member.array.geometry) gathered was read refusal y z
     → HasLoaded t (IsCellOf x.member.array.geometry) gathered read refusal x z
 whole_loaded t gathered was read refusal x y z asked loads =
@@ -133,19 +133,19 @@ whole_loaded t gathered was read refusal x y z asked loads =
     (subst (λ (m : Membership). Loads t (IsCellOf m.array.geometry) gathered was read refusal y z) asked.member loads)
 
 -- where nothing was asked for before
-pub none_asked : (x : Point) → HasAsked x x
+pub none_asked : (x : Snapshot) → HasAsked x x
 none_asked x = record { member = refl; honest = refl; ran = λ honest. ran_none {allowed = any_read} x.told.history }
 
 -- AN ARRAY THAT SERVES at x
 
 -- an array with this member
-abbrev pub array_with : Option Rebuild → Option FenceFault → Point → ArrayState
+abbrev pub array_with : Option Rebuild → Option FenceFault → Snapshot → ArrayState
 array_with rebuild stopped x = record { member = x.member; rebuild = rebuild; stopped = stopped; remembered = None }
 
 module _ (returning : Returning) (laws : LeadsReads returning) (before : List Happening) (rebuild : Option Rebuild) (stopped : Option FenceFault)
-    (words : Codewords) (kept : Content) (x : Point) where
+    (words : Codewords) (kept : Content) (x : Snapshot) where
   abbrev Calm : List Happening → Type 0
-  Calm = IsCalmTo returning x.member.array.geometry before
+  Calm = StaysWithinToleranceTo returning x.member.array.geometry before
 
   abbrev Going : List Happening → Type 0
   Going = IsGoing returning x.member.array.geometry before
@@ -159,10 +159,10 @@ module _ (returning : Returning) (laws : LeadsReads returning) (before : List Ha
   module _ (is : Serves x.told.history) where
     -- A STRIPE THAT WAS LOADED
 
-    module _ (t : ℕ) {wanted : ℕ → ℕ → Type 0} (gathered : Gathered) (read : Stripe) (refusal : Option FenceFault) (z : Point)
+    module _ (t : ℕ) {wanted : ℕ → ℕ → Type 0} (gathered : Gathered) (read : Stripe) (refusal : Option FenceFault) (z : Snapshot)
         (l : HasLoaded t wanted gathered read refusal x z) (honest : IsTrue z.told.honest) where
       pub honest_mid : IsTrue l.mid.honest
-      honest_mid = subst IsTrue (sym (left_honest gathered.gone refusal (point x.member l.mid) z l.leaves)) honest
+      honest_mid = subst IsTrue (sym (left_honest gathered.gone refusal (snapshot x.member l.mid) z l.leaves)) honest
 
       honest_first : IsTrue l.first.honest
       honest_first = subst IsTrue (sym l.gathers.honest) honest_mid
@@ -177,7 +177,7 @@ module _ (returning : Returning) (laws : LeadsReads returning) (before : List Ha
       ran_reading = ran_join {allowed = any_read} ran_first ran_gathering
 
       pub ran_leaving : Ran any_call l.mid.history z.told.history
-      ran_leaving = out_ran gathered.gone refusal (point x.member l.mid) z l.leaves honest
+      ran_leaving = out_ran gathered.gone refusal (snapshot x.member l.mid) z l.leaves honest
 
       upto_mid : Ran any_call before l.mid.history
       upto_mid = ran_join {allowed = any_call} is.is_open.ran (ran_any {allowed = any_read} ran_reading)
@@ -215,7 +215,7 @@ module _ (returning : Returning) (laws : LeadsReads returning) (before : List Ha
           (ran_any {allowed = any_read} ran_gathering) on)
 
       pub stays_so : StaysArray x.member z.member
-      stays_so = left_stays gathered.gone refusal (point x.member l.mid) z l.leaves is.is_open.array.member
+      stays_so = left_stays gathered.gone refusal (snapshot x.member l.mid) z l.leaves is.is_open.array.member
 
       -- at each moment of it the array stands as it was
       pub loading_moments : AtEveryMoment Stands x.told.history z.told.history

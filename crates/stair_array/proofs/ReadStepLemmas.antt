@@ -9,9 +9,9 @@ use Rattle.stair_rack.specs.History.{Happening}
 use Rattle.stair_rack.specs.Moments.{IsMoment}
 use Rattle.stair_rack.specs.declared.watcher.Event.{Event}
 use Rattle.stair_state.specs.State.{State}
-use Rattle.stair_session.specs.Courses.{point}
-use Rattle.stair_session.specs.Returning.{IsCalm, Returning}
-use Rattle.stair_session.proofs.Serving.{IsServing, LeadsReads, IsCalmTo}
+use Rattle.stair_invariant.specs.Effects.{snapshot}
+use Rattle.stair_invariant.specs.Returning.{StaysWithinTolerance, Returning}
+use Rattle.stair_invariant.proofs.Serving.{IsServing, LeadsReads, StaysWithinToleranceTo}
 use Rattle.stair_array.specs.Machine.{Answer, ReadBlock}
 use Rattle.stair_array.specs.Promise.{IsInState, IsLed, IsLeftBy, IsOpenFor, Performs, Seen, is_open}
 use Rattle.stair_array.proofs.KeptStepLemmas as kept
@@ -40,27 +40,27 @@ module _ (returning : Returning) (laws : LeadsReads returning) (b : ℕ) (answer
   abbrev pub serves : IsServing returning before (forgetting p.was) begins.words s.content x.told.history
   serves = kept.serves returning laws (ReadBlock b) (keeping b) answer events x y p before s history state
 
-  pub calm_begun : (h : List Happening) → IsCalm returning s.geometry (is_open x.session) before h
-      → IsCalmTo returning p.was.member.array.geometry before h
+  pub calm_begun : (h : List Happening) → StaysWithinTolerance returning s.geometry (is_open x.session) before h
+      → StaysWithinToleranceTo returning p.was.member.array.geometry before h
   calm_begun = kept.calm_begun returning laws (ReadBlock b) (keeping b) answer events x y p before s history state
 
-  pub leads : IsCalm returning s.geometry (is_open x.session) before y.told.history → IsLed returning p.was.member before s (ReadBlock b) answer y
+  pub leads : StaysWithinTolerance returning s.geometry (is_open x.session) before y.told.history → IsLed returning p.was.member before s (ReadBlock b) answer y
   leads calm =
-      kept.led returning laws (ReadBlock b) (keeping b) answer events x y p before s history state (IsInside b (point p.was.member x.told))
+      kept.led returning laws (ReadBlock b) (keeping b) answer events x y p before s history state (IsInside b (snapshot p.was.member x.told))
       (IsBlock b s.content)
       (λ inside. subst (λ (g : Geometry). b < block_count g) begins.geometry inside) (λ bytes now right was. (right, was)) answer
-      (point p.is.member y.told) refl refl
-      (outcome returning laws before p.was.rebuild p.was.stopped begins.words s.content b p.was.remembered p.is.remembered answer (point p.was.member x.told)
-      (point p.is.member y.told) p.does begins.remembered
+      (snapshot p.is.member y.told) refl refl
+      (outcome returning laws before p.was.rebuild p.was.stopped begins.words s.content b p.was.remembered p.is.remembered answer (snapshot p.was.member x.told)
+      (snapshot p.is.member y.told) p.does begins.remembered
       serves honest (calm_begun y.told.history calm))
       (remembers returning laws before p.was.rebuild p.was.stopped begins.words s.content b p.was.remembered p.is.remembered answer
-      (point p.was.member x.told)
-      (point p.is.member y.told) p.does begins.remembered serves honest (calm_begun y.told.history calm)) (calm_begun y.told.history calm)
+      (snapshot p.was.member x.told)
+      (snapshot p.is.member y.told) p.does begins.remembered serves honest (calm_begun y.told.history calm)) (calm_begun y.told.history calm)
 
-  pub cuts : (c : List Happening) → IsMoment x.told.history c y.told.history → IsCalm returning s.geometry (is_open x.session) before c
+  pub cuts : (c : List Happening) → IsMoment x.told.history c y.told.history → StaysWithinTolerance returning s.geometry (is_open x.session) before c
       → EachImage (IsLeftBy returning (ReadBlock b) p.was.member before c s) c
   cuts =
       kept.cuts returning laws (ReadBlock b) (keeping b) answer events x y p before s history state
-      (moments returning laws before p.was.rebuild p.was.stopped begins.words s.content b p.was.remembered p.is.remembered answer (point p.was.member x.told)
-      (point p.is.member y.told) p.does
+      (moments returning laws before p.was.rebuild p.was.stopped begins.words s.content b p.was.remembered p.is.remembered answer (snapshot p.was.member x.told)
+      (snapshot p.is.member y.told) p.does
       serves honest)

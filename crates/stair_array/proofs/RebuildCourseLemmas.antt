@@ -3,20 +3,20 @@ use Rattle.std.proofs.Common.{◌≡◌, ℕ, ◌+◌, ◌≤◌, refl, sym, ap,
 use Rattle.std.specs.Prelude.{Err, IsTrue, Ok, Result}
 use Rattle.stair_model.specs.Stripe.{Stripe}
 use Rattle.stair_rack.specs.Count.{Rose}
-use Rattle.stair_rack.specs.Telling.{Telling}
+use Rattle.stair_rack.specs.RackState.{RackState}
 use Rattle.stair_rack.specs.declared.rack.Reply.TheVariants as reply
-use Rattle.stair_rack.proofs.TellingLemmas.{gones_wider, later_none}
+use Rattle.stair_rack.proofs.RackStateLemmas.{gones_wider, later_none}
 use Rattle.stair_member.specs.Epochs.{IsRefusedBy}
 use Rattle.stair_member.specs.Membership.{IsHere, Membership, why_of}
 use Rattle.stair_member.specs.declared.fault.FenceFault.{FenceFault}
 use Rattle.stair_member.specs.declared.why.Why.TheVariants as why
 use Rattle.stair_stripes.specs.Gathering.{IsCellOf}
-use Rattle.stair_session.specs.Courses.{Point, point}
-use Rattle.stair_session.specs.Session.{ArrayState, IsArray, IsRebuiltIn}
+use Rattle.stair_invariant.specs.Effects.{Snapshot, snapshot}
+use Rattle.stair_invariant.specs.Session.{ArrayState, IsArray, IsRebuiltIn}
 use Rattle.stair_array.specs.Calls.{LoadsStripe, refused}
 use Rattle.stair_array.specs.Causes.{IsNextChunk}
 use Rattle.stair_array.specs.Machine.{Dropped, Progress, Refusal}
-use Rattle.stair_array.specs.Mends.{Drops, Rebuilds, WritesChunk}
+use Rattle.stair_array.specs.Mends.{FencesSlot, Rebuilds, WritesChunk}
 use Rattle.stair_array.specs.Promise.{Stops, unopened}
 use Rattle.stair_array.proofs.AnsweredLemmas.{IsLeftOut, honest_before, left_out_join, never_answered}
 use Rattle.stair_array.proofs.LoadCauseLemmas.{StopsBy, Unloaded, loaded_refused, stops_sooner}
@@ -28,7 +28,7 @@ use Rattle.stair_array.proofs.ReadCauseLemmas.{loaded_array}
 use Rattle.stair_array.proofs.ReadCourseLemmas.{load_left_out, loaded_part}
 use Rattle.stair_array.proofs.RebuildPartLemmas.{Falls, chunk_falls, chunk_left_out, chunk_part, falls_array, falls_gone, falls_left_out, falls_part, falls_stops, falls_why, gone_rose}
 
-stripe_left_out : (t : ℕ) (into : Stripe) (answer : Result (Unit {0}) Refusal) (x y : Point) → LoadsStripe t into answer x y
+stripe_left_out : (t : ℕ) (into : Stripe) (answer : Result (Unit {0}) Refusal) (x y : Snapshot) → LoadsStripe t into answer x y
     → IsTrue y.told.honest → IsLeftOut x y
 stripe_left_out t into _ _ _ (LoadsStripe.Loaded was read gathered answer x y loads is) =
     load_left_out t (IsCellOf x.member.array.geometry) gathered was read None x y loads
@@ -37,7 +37,7 @@ stripe_left_out t into _ _ _ (LoadsStripe.Stops was read gathered fault x y load
 
 -- A STRIPE IS LOADED
 
-module _ (j t : ℕ) (into : Stripe) (x y z : Point) (loads : LoadsStripe t into (Ok tt) x y) (array : IsArray (unopened x.member)) where
+module _ (j t : ℕ) (into : Stripe) (x y z : Snapshot) (loads : LoadsStripe t into (Ok tt) x y) (array : IsArray (unopened x.member)) where
   pub stripe_part : IsPart 0 x y
   stripe_part = loaded_part t into (Ok tt) x y loads array.member
 
@@ -65,8 +65,8 @@ module _ (j t : ℕ) (into : Stripe) (x y z : Point) (loads : LoadsStripe t into
     written_rebuilt = subst (λ (m : Membership). IsRebuiltIn m j) (sym wrote.member)
 
   -- or its slot was gone
-  module _ (refusal : Option FenceFault) (w : Point) (rebuilt : IsRebuiltIn y.member j) (wrote : WritesChunk j t into reply.Gone y z)
-      (drops : Drops j refusal z w) where
+  module _ (refusal : Option FenceFault) (w : Snapshot) (rebuilt : IsRebuiltIn y.member j) (wrote : WritesChunk j t into reply.Gone y z)
+      (drops : FencesSlot j refusal z w) where
     here : IsHere y.member j
     here = rebuilt_here y.member j rebuilt
 
@@ -103,23 +103,23 @@ module _ (j t : ℕ) (into : Stripe) (x y z : Point) (loads : LoadsStripe t into
 
 -- Why it is refused: a stripe wasn't loaded; the slot was gone as its chunk was written, and no epoch without it could be
 -- established; or none could be after the last chunk.
-pub data IsStopped (was : ArrayState) (why : Refusal) (x z : Point) : Type 0 where
+pub data IsStopped (was : ArrayState) (why : Refusal) (x z : Snapshot) : Type 0 where
   Loading : (j t : ℕ) → IsNextChunk was j t → Unloaded t why x z → IsStopped was why x z
   Falling : (fault : FenceFault) → why ≡ refused fault → StopsBy fault x z → IsStopped was why x z
   Promoting : (j t : ℕ) → IsNextChunk was j t → x.member.array.geometry.stripes ≤ t + 1 → (fault : FenceFault) → why ≡ refused fault
       → IsRefusedBy z.member fault → IsStopped was why x z
 
 -- the slot whose chunk comes next is rebuilt
-abbrev pub NextIsRebuilt : ArrayState → Point → Type 0
+abbrev pub NextIsRebuilt : ArrayState → Snapshot → Type 0
 NextIsRebuilt was x = (j t : ℕ) → IsNextChunk was j t → IsRebuiltIn x.member j
 
 -- as it is by an open array
-pub next_rebuilt : (was : ArrayState) (old : Telling) → IsArray was → NextIsRebuilt was (point was.member old)
+pub next_rebuilt : (was : ArrayState) (old : RackState) → IsArray was → NextIsRebuilt was (snapshot was.member old)
 next_rebuilt was old array j t (IsNextChunk.UnderWay under is slot stripe) = subst (IsRebuiltIn was.member) slot (array.rebuilds under is).0
 next_rebuilt was old array j t (IsNextChunk.First none lowest first) = lowest.rebuilt
 
 module _ (was : ArrayState) where
-  pub rebuilt_part : (answer : Result Progress Refusal) (x z : Point) → Rebuilds was answer x z → IsArray (unopened x.member)
+  pub rebuilt_part : (answer : Result Progress Refusal) (x z : Snapshot) → Rebuilds was answer x z → IsArray (unopened x.member)
       → NextIsRebuilt was x → IsRebuildPart x z
   rebuilt_part _ _ _ (Rebuilds.NoneIs x none) array next = part_rebuilds x x array.marks (part_none x array.member)
   rebuilt_part _ _ _ (Rebuilds.Unread j t into refusal x y is below loads) array next =
@@ -136,7 +136,7 @@ module _ (was : ArrayState) where
   rebuilt_part _ _ _ (Rebuilds.OnlyPromotes j t answer x y is at_end promotes) array next = promotes_part j answer x y promotes array (next j t is)
 
   -- where it comes to no promotion and its slot didn't fall it drops slots at most
-  pub beside_part : (answer : Result Progress Refusal) (x z : Point) → Rebuilds was answer x z → IsArray (unopened x.member)
+  pub beside_part : (answer : Result Progress Refusal) (x z : Snapshot) → Rebuilds was answer x z → IsArray (unopened x.member)
       → IsBeside answer → IsPart 0 x z
   beside_part _ _ _ (Rebuilds.NoneIs x none) array beside = part_none x array.member
   beside_part _ _ _ (Rebuilds.Unread j t into refusal x y is below loads) array beside = loaded_part t into (Err refusal) x y loads array.member
@@ -147,7 +147,7 @@ module _ (was : ArrayState) where
       absurd (promotes_never j answer z w promotes beside)
   beside_part _ _ _ (Rebuilds.OnlyPromotes j t answer x y is at_end promotes) array beside = absurd (promotes_never j answer x y promotes beside)
 
-  pub rebuilt_left_out : (answer : Result Progress Refusal) (x z : Point) → Rebuilds was answer x z → IsArray (unopened x.member)
+  pub rebuilt_left_out : (answer : Result Progress Refusal) (x z : Snapshot) → Rebuilds was answer x z → IsArray (unopened x.member)
       → NextIsRebuilt was x → IsTrue z.told.honest → IsLeftOut x z
   rebuilt_left_out _ _ _ (Rebuilds.NoneIs x none) array next honest =
       λ j call here was_answered gone. absurd (never_answered j call x.told.history was_answered)
@@ -169,7 +169,7 @@ module _ (was : ArrayState) where
   rebuilt_left_out _ _ _ (Rebuilds.OnlyPromotes j t answer x y is at_end promotes) array next honest =
       promotes_left_out j answer x y promotes array (next j t is) honest
 
-  pub rebuilt_array : (answer : Result Progress Refusal) (x z : Point) → Rebuilds was answer x z → IsArray (unopened x.member)
+  pub rebuilt_array : (answer : Result Progress Refusal) (x z : Snapshot) → Rebuilds was answer x z → IsArray (unopened x.member)
       → NextIsRebuilt was x → ¬ Stops answer → IsArray (unopened z.member)
   rebuilt_array _ _ _ (Rebuilds.NoneIs x none) array next going = array
   rebuilt_array _ _ _ (Rebuilds.Unread j t into refusal x y is below loads) array next going =
@@ -186,7 +186,7 @@ module _ (was : ArrayState) where
   rebuilt_array _ _ _ (Rebuilds.OnlyPromotes j t answer x y is at_end promotes) array next going =
       promotes_array j answer x y promotes array (next j t is) going
 
-  pub rebuilt_stopped : (answer : Result Progress Refusal) (x z : Point) → Rebuilds was answer x z → IsArray (unopened x.member)
+  pub rebuilt_stopped : (answer : Result Progress Refusal) (x z : Snapshot) → Rebuilds was answer x z → IsArray (unopened x.member)
       → NextIsRebuilt was x → (why : Refusal) → answer ≡ Err why → IsStopped was why x z
   rebuilt_stopped _ _ _ (Rebuilds.NoneIs x none) array next why same = absurd (cc)
   rebuilt_stopped _ _ _ (Rebuilds.Unread j t into refusal x y is below loads) array next why same =

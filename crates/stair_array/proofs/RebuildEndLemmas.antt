@@ -6,34 +6,34 @@ use Rattle.stair_rack.specs.Answers.{Ran, any_call}
 use Rattle.stair_rack.specs.History.{Happening}
 use Rattle.stair_rack.specs.Moments.{AtEveryMoment}
 use Rattle.stair_rack.specs.Offline.{IsAttached}
-use Rattle.stair_rack.specs.Telling.{IsLater, Telling}
+use Rattle.stair_rack.specs.RackState.{IsLater, RackState}
 use Rattle.stair_rack.specs.declared.rack.Reply.{Reply}
 use Rattle.stair_rack.specs.declared.rack.Reply.TheVariants as reply
 use Rattle.stair_rack.proofs.MomentLemmas.{at_every_from, at_every_join, at_every_mapped, at_moment, ran_before, ran_join}
-use Rattle.stair_rack.proofs.TellingLemmas.{later_join}
+use Rattle.stair_rack.proofs.RackStateLemmas.{later_join}
 use Rattle.stair_super.specs.Superblock.{mark_in}
 use Rattle.stair_super.specs.declared.mark.Mark.TheVariants as mark
 use Rattle.stair_member.specs.Aims.{mark_for}
 use Rattle.stair_member.specs.Establishing.{Joins, refusal_in}
 use Rattle.stair_member.specs.Membership.{Membership}
-use Rattle.stair_member.specs.declared.aim.Aim.TheVariants.{Promote}
+use Rattle.stair_member.specs.declared.aim.EpochChange.TheVariants.{Promote}
 use Rattle.stair_member.specs.declared.fault.FenceFault.{FenceFault}
 use Rattle.stair_member.specs.declared.fault.FenceFault.TheVariants as fence
 use Rattle.stair_state.specs.Blocks.{Codewords}
 use Rattle.stair_state.specs.State.{Content}
-use Rattle.stair_session.specs.Courses.{Point, point}
-use Rattle.stair_session.specs.Opening.{StaysArray, opened_with}
-use Rattle.stair_session.specs.Rebuilding.{IsRebuiltTo, Rebuild}
-use Rattle.stair_session.specs.Returning.{Returning}
-use Rattle.stair_session.specs.Session.{ArrayState, IsRebuiltIn, seats_in}
-use Rattle.stair_session.proofs.OpenWithLemmas.{rebuilds_on}
-use Rattle.stair_session.proofs.RebuildingLemmas.{rebuilt_none}
-use Rattle.stair_session.proofs.Serving.{IsCalmTo, IsGoing, IsServing, LeadsReads}
-use Rattle.stair_session.proofs.Mending.{calm_going, LeadsBeside, LeadsPromotions}
+use Rattle.stair_invariant.specs.Effects.{Snapshot, snapshot}
+use Rattle.stair_invariant.specs.Opening.{StaysArray, opened_with}
+use Rattle.stair_invariant.specs.Rebuilding.{IsRebuiltTo, Rebuild}
+use Rattle.stair_invariant.specs.Returning.{Returning}
+use Rattle.stair_invariant.specs.Session.{ArrayState, IsRebuiltIn, seats_in}
+use Rattle.stair_invariant.proofs.OpenWithLemmas.{rebuilds_on}
+use Rattle.stair_invariant.proofs.RebuildingLemmas.{rebuilt_none}
+use Rattle.stair_invariant.proofs.Serving.{StaysWithinToleranceTo, IsGoing, IsServing, LeadsReads}
+use Rattle.stair_invariant.proofs.Mending.{calm_going, LeadsBeside, LeadsPromotions}
 use Rattle.stair_array.specs.Calls.{answer_of}
 use Rattle.stair_array.specs.Causes.{IsNextChunk}
 use Rattle.stair_array.specs.Machine.{Dropped, Progress, Refusal}
-use Rattle.stair_array.specs.Mends.{Drops, Joined, Promotes, SyncsSlot, Unsynced}
+use Rattle.stair_array.specs.Mends.{FencesSlot, Joined, Promotes, SyncsSlot, Unsynced}
 use Rattle.stair_array.proofs.ChunkServingLemmas.{sync_serves, sync_stands, sync_whole}
 use Rattle.stair_array.proofs.DropServingLemmas.{drop_enough, drop_later, drop_refused, drop_serves, drop_stands, drop_stays, drop_why}
 use Rattle.stair_array.proofs.LeftServingLemmas.{StandsAt}
@@ -76,19 +76,19 @@ moments_join returning before kept m old mid new upto first later second =
 
 -- THE END of a step: a slot that is rebuilt is dropped, or promoted.
 module _ (returning : Returning) (laws : LeadsReads returning) (before : List Happening) (was : ArrayState) (words : Codewords) (kept : Content)
-    (m : Membership) (j : ℕ) (rebuilt : IsRebuiltIn m j) (old : Telling) (is : IsServing returning before (opened_with m) words kept old.history)
-    (z : Point)
+    (m : Membership) (j : ℕ) (rebuilt : IsRebuiltIn m j) (old : RackState) (is : IsServing returning before (opened_with m) words kept old.history)
+    (z : Snapshot)
     (honest : IsTrue z.told.honest) where
   marked_so : mark_in m.array j ≡ mark.Rebuilding
   marked_so = is.is_open.array.marks j rebuilt.below ∙ ap mark_for rebuilt.why
 
-  module _ (refusal : Option FenceFault) (drops : Drops j refusal (point m old) z) where
+  module _ (refusal : Option FenceFault) (drops : FencesSlot j refusal (snapshot m old) z) where
     pub drop_moments : AtEveryMoment (MovesAt returning before kept m) old.history z.told.history
     drop_moments =
         stands_moved returning before m kept old.history z.told.history
         (drop_stands returning laws before m words kept j rebuilt old is z honest refusal drops)
 
-    pub drop_ends : IsCalmTo returning m.array.geometry before z.told.history
+    pub drop_ends : StaysWithinToleranceTo returning m.array.geometry before z.told.history
         → Outcome returning before was words kept m (answer_of (Dropped j) refusal) z
     drop_ends calm = by refusal refl
       where
@@ -120,7 +120,7 @@ module _ (returning : Returning) (laws : LeadsReads returning) (before : List Ha
 module _ (returning : Returning) (laws : LeadsReads returning) (besides : LeadsBeside returning) (promotions : LeadsPromotions returning)
     (before : List Happening) (was : ArrayState) (words : Codewords) (kept : Content) (j : ℕ) where
   -- after a sync
-  module _ (x y : Point) (answer : Reply) (syncs : SyncsSlot j answer x y) (rebuilt : IsRebuiltIn x.member j)
+  module _ (x y : Snapshot) (answer : Reply) (syncs : SyncsSlot j answer x y) (rebuilt : IsRebuiltIn x.member j)
       (is : IsServing returning before (opened_with x.member) words kept x.told.history) (honest : IsTrue y.told.honest) where
     synced_upto : Ran any_call before y.told.history
     synced_upto = ran_join {allowed = any_call} is.is_open.ran (syncs.later.ran honest)
@@ -134,7 +134,7 @@ module _ (returning : Returning) (laws : LeadsReads returning) (besides : LeadsB
         → IsServing returning before (opened_with x.member) words kept y.told.history
     synced_serves = sync_serves returning laws besides before x.member words kept j rebuilt x.told is y honest answer syncs
 
-  pub promote_moments : (answer : Result Progress Refusal) (x z : Point) → Promotes j answer x z
+  pub promote_moments : (answer : Result Progress Refusal) (x z : Snapshot) → Promotes j answer x z
       → IsRebuiltIn x.member j → IsServing returning before (opened_with x.member) words kept x.told.history
       → (IsAttached x.told.history j → IsRebuiltTo x.member.array.geometry words j x.member.array.geometry.stripes x.told.history x.told.history)
       → IsTrue z.told.honest → AtEveryMoment (MovesAt returning before kept x.member) x.told.history z.told.history
@@ -146,7 +146,7 @@ module _ (returning : Returning) (laws : LeadsReads returning) (besides : LeadsB
       (λ on.
       drop_moments returning laws before was words kept x.member j rebuilt y.told (synced_serves x y reply.Gone syncs rebuilt is honest_y on) z
       honest refusal
-      (subst (λ (m : Membership). Drops j refusal (point m y.told) z) syncs.member drops))
+      (subst (λ (m : Membership). FencesSlot j refusal (snapshot m y.told) z) syncs.member drops))
   promote_moments _ _ _ (Joined given x y z syncs joins) rebuilt is chunks honest =
       let after = (epoch_after (Promote j) y.member z.member (refusal_in given) y.told z.told joins.establishes).later in
       let honest_y = subst IsTrue (sym after.honest) honest in
@@ -157,10 +157,10 @@ module _ (returning : Returning) (laws : LeadsReads returning) (besides : LeadsB
       (sync_whole returning laws besides before x.member words kept j rebuilt x.told is y honest_y reply.Done syncs refl chunks) z honest given
       (subst (λ (m : Membership). Joins (Promote j) j m z.member given y.told z.told) syncs.member joins))
 
-  pub promote_ends : (answer : Result Progress Refusal) (x z : Point) → Promotes j answer x z
+  pub promote_ends : (answer : Result Progress Refusal) (x z : Snapshot) → Promotes j answer x z
       → IsRebuiltIn x.member j → IsServing returning before (opened_with x.member) words kept x.told.history
       → (IsAttached x.told.history j → IsRebuiltTo x.member.array.geometry words j x.member.array.geometry.stripes x.told.history x.told.history)
-      → IsTrue z.told.honest → IsCalmTo returning x.member.array.geometry before z.told.history
+      → IsTrue z.told.honest → StaysWithinToleranceTo returning x.member.array.geometry before z.told.history
       → Outcome returning before was words kept x.member answer z
   promote_ends _ _ _ (Unsynced refusal x y z syncs drops) rebuilt is chunks honest calm =
       let after = (out_after drops.gone refusal y z drops.leaves).later in
@@ -171,7 +171,7 @@ module _ (returning : Returning) (laws : LeadsReads returning) (besides : LeadsB
       (calm_going returning x.member.array.geometry before z.told.history (ran_join {allowed = any_call} upto (after.ran honest)) calm) in
       drop_ends returning laws before was words kept x.member j rebuilt y.told (synced_serves x y reply.Gone syncs rebuilt is honest_y on) z honest
       refusal
-      (subst (λ (m : Membership). Drops j refusal (point m y.told) z) syncs.member drops) calm
+      (subst (λ (m : Membership). FencesSlot j refusal (snapshot m y.told) z) syncs.member drops) calm
   promote_ends _ _ _ (Joined given x y z syncs joins) rebuilt is chunks honest calm =
       let after = (epoch_after (Promote j) y.member z.member (refusal_in given) y.told z.told joins.establishes).later in
       let honest_y = subst IsTrue (sym after.honest) honest in
@@ -196,7 +196,7 @@ chunks_next returning before was a words kept h j t is (IsNextChunk.UnderWay r s
 chunks_next returning before was a words kept h j t is (IsNextChunk.First none lowest first) goes attached =
     subst (λ (k : ℕ). IsRebuiltTo a.member.array.geometry words j k h h) (sym first) (rebuilt_none a.member.array.geometry words j h h)
 
-pub promotes_later : (j : ℕ) (answer : Result Progress Refusal) (x z : Point) → Promotes j answer x z → IsLater x.told z.told
+pub promotes_later : (j : ℕ) (answer : Result Progress Refusal) (x z : Snapshot) → Promotes j answer x z → IsLater x.told z.told
 promotes_later j _ _ _ (Unsynced refusal x y z syncs drops) = later_join syncs.later (out_after drops.gone refusal y z drops.leaves).later
 promotes_later j _ _ _ (Joined given x y z syncs joins) =
     later_join syncs.later (epoch_after (Promote j) y.member z.member (refusal_in given) y.told z.told joins.establishes).later

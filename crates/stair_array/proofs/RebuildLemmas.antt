@@ -3,14 +3,14 @@ use Rattle.std.proofs.Common.{◌≡◌, ℕ, ◌+◌, ◌<◌, ◌≤◌, inl, 
 use Rattle.std.specs.Prelude.{Err, IfErr, IsTrue, Ok}
 use Rattle.stair_model.specs.Device.{cell_sector}
 use Rattle.stair_model.specs.Geometry.{Geometry}
-use Rattle.stair_rack.specs.Telling.{Telling}
+use Rattle.stair_rack.specs.RackState.{RackState}
 use Rattle.stair_member.specs.Epochs.{IsRefusedBy}
 use Rattle.stair_member.specs.Membership.{Membership}
 use Rattle.stair_member.specs.declared.fault.FenceFault.{FenceFault}
 use Rattle.stair_member.specs.declared.fault.FenceFault.TheVariants as fence
-use Rattle.stair_session.specs.Courses.{point}
-use Rattle.stair_session.specs.Rebuilding.{Rebuild}
-use Rattle.stair_session.specs.Session.{ArrayState, IsArray, IsRebuiltIn, Remembered}
+use Rattle.stair_invariant.specs.Effects.{snapshot}
+use Rattle.stair_invariant.specs.Rebuilding.{Rebuild}
+use Rattle.stair_invariant.specs.Session.{ArrayState, IsArray, IsRebuiltIn, Remembered}
 use Rattle.stair_array.specs.Calls.{refused}
 use Rattle.stair_array.specs.Causes.{HasCause, HasCounted, IsAllowed, IsEpochDue}
 use Rattle.stair_array.specs.Draws.{Before}
@@ -26,8 +26,8 @@ use Rattle.stair_array.proofs.PromotionLemmas.{IsBeside}
 use Rattle.stair_array.proofs.RebuildCourseLemmas.{Falling, IsStopped, Loading, NextIsRebuilt, Promoting, beside_part, next_rebuilt, rebuilt_array, rebuilt_left_out, rebuilt_part, rebuilt_stopped}
 use Rattle.stair_array.proofs.RebuildMadeLemmas.{WroteChunk, chunk_told, dropped_told, next_once, nothing_told, promoted_told}
 
-module _ (answer : Answer RebuildNext) (m last : Membership) (rebuild : Option Rebuild) (known : Option Remembered) (stopped : Option FenceFault) (old new : Telling)
-    (array : IsArray (running m rebuild known)) (does : Rebuilds (running m rebuild known) answer (point m old) (point last new)) (kept : Keeps answer stopped) where
+module _ (answer : Answer RebuildNext) (m last : Membership) (rebuild : Option Rebuild) (known : Option Remembered) (stopped : Option FenceFault) (old new : RackState)
+    (array : IsArray (running m rebuild known)) (does : Rebuilds (running m rebuild known) answer (snapshot m old) (snapshot last new)) (kept : Keeps answer stopped) where
   abbrev was : ArrayState
   was = running m rebuild known
 
@@ -37,29 +37,29 @@ module _ (answer : Answer RebuildNext) (m last : Membership) (rebuild : Option R
   unstopped : IsArray (unopened m)
   unstopped = record { member = array.member; marks = array.marks; enough = array.enough; rebuilds = λ r is. absurd (cc) }
 
-  next : NextIsRebuilt was (point m old)
+  next : NextIsRebuilt was (snapshot m old)
   next = next_rebuilt was old array
 
-  part : IsRebuildPart (point m old) (point last new)
-  part = rebuilt_part was answer (point m old) (point last new) does unstopped next
+  part : IsRebuildPart (snapshot m old) (snapshot last new)
+  part = rebuilt_part was answer (snapshot m old) (snapshot last new) does unstopped next
 
-  drops_at_most : (given : Answer RebuildNext) → answer ≡ given → IsBeside given → IsPart 0 (point m old) (point last new)
+  drops_at_most : (given : Answer RebuildNext) → answer ≡ given → IsBeside given → IsPart 0 (snapshot m old) (snapshot last new)
   drops_at_most given same beside =
-      beside_part was answer (point m old) (point last new) does unstopped (subst IsBeside (sym same) beside)
+      beside_part was answer (snapshot m old) (snapshot last new) does unstopped (subst IsBeside (sym same) beside)
 
   -- how far it has come
   rebuild_kept : (given : Answer RebuildNext) → answer ≡ given → KeepsRebuild RebuildNext given was (ends_as given)
   rebuild_kept (Ok Nothing) same = keeps_progress m last rebuild known stopped old new array (drops_at_most (Ok Nothing) same tt)
   rebuild_kept (Ok (Chunk j t)) same =
-      let told = chunk_told was answer (point m old) (point last new) does unstopped j t same in (told.more, told.rebuilt, refl)
+      let told = chunk_told was answer (snapshot m old) (snapshot last new) does unstopped j t same in (told.more, told.rebuilt, refl)
   rebuild_kept (Ok (Promoted j)) same =
-      let told = promoted_told was answer (point m old) (point last new) does unstopped next j same in (
+      let told = promoted_told was answer (snapshot m old) (snapshot last new) does unstopped next j same in (
         refl,
         told.live,
         λ t is. subst (λ (s : ℕ). m.array.geometry.stripes ≤ s + 1) (next_once was j told.stripe t told.next is) told.at_end,
       )
   rebuild_kept (Ok (Dropped j)) same =
-      let told = dropped_told was answer (point m old) (point last new) does unstopped next j same in (refl, told.away)
+      let told = dropped_told was answer (snapshot m old) (snapshot last new) does unstopped next j same in (refl, told.away)
   rebuild_kept (Err (TooFew whys)) same = tt
   rebuild_kept (Err EpochsSpent) same = tt
   rebuild_kept (Err why) same = keeps_progress m last rebuild known stopped old new array (drops_at_most (Err why) same (λ is. is))
@@ -69,8 +69,8 @@ module _ (answer : Answer RebuildNext) (m last : Membership) (rebuild : Option R
   array_kept (Ok Nothing) same going is = stands m last rebuild known stopped old new array (drops_at_most (Ok Nothing) same tt) is
   array_kept (Ok (Chunk j t)) same going is = record { member = is.member; marks = is.marks; enough = is.enough; rebuilds = rebuilds }
     where
-      told : WroteChunk was j t (point m old) (point last new)
-      told = chunk_told was answer (point m old) (point last new) does unstopped j t same
+      told : WroteChunk was j t (snapshot m old) (snapshot last new)
+      told = chunk_told was answer (snapshot m old) (snapshot last new) does unstopped j t same
 
       rebuilds : (r : Rebuild) → Some (record { slot = j; stripe = t + 1 }) ≡ Some r
           → IsRebuiltIn last r.slot × (r.stripe ≤ last.array.geometry.stripes)
@@ -95,7 +95,7 @@ module _ (answer : Answer RebuildNext) (m last : Membership) (rebuild : Option R
   epoch_caused due (fence.TooFew whys) is = (due, record { whys_are = is.0; many = is.1 })
   epoch_caused due fence.EpochsSpent is = (due, record { spent = is.0; enough = is.1 })
 
-  stopped_caused : (why : Refusal) → IsStopped was why (point m old) (point last new) → Caused why
+  stopped_caused : (why : Refusal) → IsStopped was why (snapshot m old) (snapshot last new) → Caused why
   stopped_caused why (Loading j t is (Unloaded.ByEpoch fault same stops)) =
       subst Caused (sym same) (epoch_caused (inl stops.one) fault stops.by)
   stopped_caused why (Loading j t is (Unloaded.ByPattern counts same lost)) = subst Caused (sym same) (j, is, lost)
@@ -104,23 +104,23 @@ module _ (answer : Answer RebuildNext) (m last : Membership) (rebuild : Option R
 
   caused : (given : Answer RebuildNext) → answer ≡ given → IfErr given Caused
   caused (Ok progress) same = tt
-  caused (Err why) same = stopped_caused why (rebuilt_stopped was answer (point m old) (point last new) does unstopped next why same)
+  caused (Err why) same = stopped_caused why (rebuilt_stopped was answer (snapshot m old) (snapshot last new) does unstopped next why same)
 
   -- what it answers
   allowed : (given : Answer RebuildNext) → answer ≡ given → IsAllowed RebuildNext given was
-  allowed (Ok Nothing) same = nothing_told was answer (point m old) (point last new) does same
-  allowed (Ok (Chunk j t)) same = (chunk_told was answer (point m old) (point last new) does unstopped j t same).next
+  allowed (Ok Nothing) same = nothing_told was answer (snapshot m old) (snapshot last new) does same
+  allowed (Ok (Chunk j t)) same = (chunk_told was answer (snapshot m old) (snapshot last new) does unstopped j t same).next
   allowed (Ok (Promoted j)) same =
-      let told = promoted_told was answer (point m old) (point last new) does unstopped next j same in (told.stripe, told.next)
+      let told = promoted_told was answer (snapshot m old) (snapshot last new) does unstopped next j same in (told.stripe, told.next)
   allowed (Ok (Dropped j)) same =
-      let told = dropped_told was answer (point m old) (point last new) does unstopped next j same in (told.stripe, told.next)
+      let told = dropped_told was answer (snapshot m old) (snapshot last new) does unstopped next j same in (told.stripe, told.next)
   allowed (Err why) same = tt
 
   counted : (given : Answer RebuildNext) → answer ≡ given → HasCounted RebuildNext given old new
   counted (Ok Nothing) same = tt
   counted (Ok (Chunk j t)) same = tt
   counted (Ok (Promoted j)) same = tt
-  counted (Ok (Dropped j)) same = (dropped_told was answer (point m old) (point last new) does unstopped next j same).rose
+  counted (Ok (Dropped j)) same = (dropped_told was answer (snapshot m old) (snapshot last new) does unstopped next j same).rose
   counted (Err why) same = tt
 
   -- the cells of a chunk
@@ -134,10 +134,10 @@ module _ (answer : Answer RebuildNext) (m last : Membership) (rebuild : Option R
   made (Ok Nothing) same honest = tt
   made (Ok (Chunk j t)) same honest =
       λ i row.
-      sound_in j t i ((chunk_told was answer (point m old) (point last new) does unstopped j t same).sound honest i (row_first i row))
+      sound_in j t i ((chunk_told was answer (snapshot m old) (snapshot last new) does unstopped j t same).sound honest i (row_first i row))
   made (Ok (Promoted j)) same honest =
       λ t i is below row.
-      let told = promoted_told was answer (point m old) (point last new) does unstopped next j same in
+      let told = promoted_told was answer (snapshot m old) (snapshot last new) does unstopped next j same in
       let one = next_once was j told.stripe t told.next is in
       let below_first = subst (λ (g : Geometry). t < g.stripes) part.goes_on.geometry below in
       subst (λ (s : ℕ). WasSound j (cell_sector last.array.geometry s i) old new) one
@@ -164,11 +164,11 @@ module _ (answer : Answer RebuildNext) (m last : Membership) (rebuild : Option R
     caused = caused answer refl;
     allowed = allowed answer refl;
     array = λ going.
-        array_kept answer refl going (rebuilt_array was answer (point m old) (point last new) does unstopped next going);
+        array_kept answer refl going (rebuilt_array was answer (snapshot m old) (snapshot last new) does unstopped next going);
     counted = counted answer refl;
     remembers = refl;
     does = does;
-    left_out = rebuilt_left_out was answer (point m old) (point last new) does unstopped next;
+    left_out = rebuilt_left_out was answer (snapshot m old) (snapshot last new) does unstopped next;
     made = made answer refl;
     repaired = λ honest. tt;
     looked = λ honest. tt;

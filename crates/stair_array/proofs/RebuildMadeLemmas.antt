@@ -10,12 +10,12 @@ use Rattle.stair_rack.specs.History.{slot_state}
 use Rattle.stair_rack.specs.Sector.{content}
 use Rattle.stair_rack.specs.declared.rack.Reply.TheVariants as reply
 use Rattle.stair_rack.proofs.MomentLemmas.{at_some_wider, ran_none}
-use Rattle.stair_rack.proofs.TellingLemmas.{gones_wider, later_none}
+use Rattle.stair_rack.proofs.RackStateLemmas.{gones_wider, later_none}
 use Rattle.stair_member.specs.Membership.{IsHere}
 use Rattle.stair_stripes.proofs.PlacingLemmas.{cell_writes_cell}
-use Rattle.stair_session.specs.Courses.{Point}
-use Rattle.stair_session.specs.Rebuilding.{Rebuild}
-use Rattle.stair_session.specs.Session.{ArrayState, IsArray, IsLiveIn, IsRebuiltIn}
+use Rattle.stair_invariant.specs.Effects.{Snapshot}
+use Rattle.stair_invariant.specs.Rebuilding.{Rebuild}
+use Rattle.stair_invariant.specs.Session.{ArrayState, IsArray, IsLiveIn, IsRebuiltIn}
 use Rattle.stair_array.specs.Calls.{LoadsStripe}
 use Rattle.stair_array.specs.Causes.{IsNextChunk}
 use Rattle.stair_array.specs.Machine.{Chunk, Dropped, Nothing, Progress, Promoted, Refusal}
@@ -43,7 +43,7 @@ next_once was j s t (IsNextChunk.First none lowest first) (IsNextChunk.First aga
 -- A CHUNK THAT WAS WRITTEN
 
 -- each of its cells was sound
-module _ (j t : ℕ) (into : Stripe) (x y : Point) (wrote : WritesChunk j t into reply.Done x y) (honest : IsTrue y.told.honest) (i : ℕ)
+module _ (j t : ℕ) (into : Stripe) (x y : Snapshot) (wrote : WritesChunk j t into reply.Done x y) (honest : IsTrue y.told.honest) (i : ℕ)
     (row : i < x.member.array.geometry.r) where
   chunk_sound : WasSound j (cell_sector x.member.array.geometry t i) x.told y.told
   chunk_sound =
@@ -55,7 +55,7 @@ module _ (j t : ℕ) (into : Stripe) (x y : Point) (wrote : WritesChunk j t into
       (cell_writes_cell g wrote.redo into j i ((wrote.cells i j).1 (row, refl)))))
 
 -- and so it was in a longer stretch
-module _ (j t : ℕ) (into : Stripe) (x y z : Point) (loads : LoadsStripe t into (Ok tt) x y) (array : IsArray (unopened x.member))
+module _ (j t : ℕ) (into : Stripe) (x y z : Snapshot) (loads : LoadsStripe t into (Ok tt) x y) (array : IsArray (unopened x.member))
     (wrote : WritesChunk j t into reply.Done y z) (honest : IsTrue z.told.honest) (i : ℕ) (row : i < x.member.array.geometry.r) where
   loaded : IsPart 0 x y
   loaded = stripe_part j t into x y z loads array
@@ -71,14 +71,14 @@ module _ (j t : ℕ) (into : Stripe) (x y z : Point) (loads : LoadsStripe t into
 
 -- WHAT AN ANSWER TELLS
 
-pub record WroteChunk (was : ArrayState) (j t : ℕ) (x z : Point) : Type 0 where
+pub record WroteChunk (was : ArrayState) (j t : ℕ) (x z : Snapshot) : Type 0 where
   pub next : IsNextChunk was j t
   pub more : t + 1 < x.member.array.geometry.stripes
   pub rebuilt : IsRebuiltIn z.member j
   pub sound : IsTrue z.told.honest → (i : ℕ) → i < x.member.array.geometry.r
       → WasSound j (cell_sector x.member.array.geometry t i) x.told z.told
 
-pub record WasPromoted (was : ArrayState) (j : ℕ) (x z : Point) : Type 0 where
+pub record WasPromoted (was : ArrayState) (j : ℕ) (x z : Snapshot) : Type 0 where
   pub stripe : ℕ
   pub next : IsNextChunk was j stripe
   pub at_end : x.member.array.geometry.stripes ≤ stripe + 1
@@ -86,14 +86,14 @@ pub record WasPromoted (was : ArrayState) (j : ℕ) (x z : Point) : Type 0 where
   pub sound : IsTrue z.told.honest → stripe < x.member.array.geometry.stripes → (i : ℕ) → i < x.member.array.geometry.r
       → WasSound j (cell_sector x.member.array.geometry stripe i) x.told z.told
 
-pub record WasDropped (was : ArrayState) (j : ℕ) (x z : Point) : Type 0 where
+pub record WasDropped (was : ArrayState) (j : ℕ) (x z : Snapshot) : Type 0 where
   pub stripe : ℕ
   pub next : IsNextChunk was j stripe
   pub away : ¬ IsHere z.member j
   pub rose : Rose (x.told.gones j) (z.told.gones j)
 
 -- a slot that isn't rebuilt any more after a stripe was loaded was gone
-fell_away : (x y : Point) (j : ℕ) → IsPart 0 x y → IsRebuiltIn x.member j → ¬ IsRebuiltIn y.member j
+fell_away : (x y : Snapshot) (j : ℕ) → IsPart 0 x y → IsRebuiltIn x.member j → ¬ IsRebuiltIn y.member j
     → (¬ IsHere y.member j) × Rose (x.told.gones j) (y.told.gones j)
 fell_away x y j part rebuilt fell = by (part.whys j rebuilt.below)
   where
@@ -104,7 +104,7 @@ fell_away x y j part rebuilt fell = by (part.whys j rebuilt.below)
     by (WhyStays.Went gone was) = (λ here. here_not_gone y.member j here gone, gone_rose x.member j x.told y.told was)
 
 module _ (was : ArrayState) where
-  pub nothing_told : (answer : Result Progress Refusal) (x z : Point) → Rebuilds was answer x z → answer ≡ Ok Nothing
+  pub nothing_told : (answer : Result Progress Refusal) (x z : Snapshot) → Rebuilds was answer x z → answer ≡ Ok Nothing
       → (j : ℕ) → ¬ IsRebuiltIn was.member j
   nothing_told _ _ _ (Rebuilds.NoneIs x none) same = none
   nothing_told _ _ _ (Rebuilds.Unread j t into refusal x y is below loads) same = absurd (cc)
@@ -117,7 +117,7 @@ module _ (was : ArrayState) where
   nothing_told _ _ _ (Rebuilds.OnlyPromotes j t answer x y is at_end promotes) same =
       absurd (promotes_never j answer x y promotes (subst IsBeside (sym same) tt))
 
-  pub chunk_told : (answer : Result Progress Refusal) (x z : Point) → Rebuilds was answer x z → IsArray (unopened x.member)
+  pub chunk_told : (answer : Result Progress Refusal) (x z : Snapshot) → Rebuilds was answer x z → IsArray (unopened x.member)
       → (j t : ℕ) → answer ≡ Ok (Chunk j t) → WroteChunk was j t x z
   chunk_told _ _ _ (Rebuilds.NoneIs x none) array i s same = absurd (cc)
   chunk_told _ _ _ (Rebuilds.Unread j t into refusal x y is below loads) array i s same = absurd (cc)
@@ -140,7 +140,7 @@ module _ (was : ArrayState) where
   chunk_told _ _ _ (Rebuilds.OnlyPromotes j t answer x y is at_end promotes) array i s same =
       absurd (promotes_never j answer x y promotes (subst IsBeside (sym same) tt))
 
-  pub promoted_told : (answer : Result Progress Refusal) (x z : Point) → Rebuilds was answer x z → IsArray (unopened x.member)
+  pub promoted_told : (answer : Result Progress Refusal) (x z : Snapshot) → Rebuilds was answer x z → IsArray (unopened x.member)
       → NextIsRebuilt was x → (j : ℕ) → answer ≡ Ok (Promoted j) → WasPromoted was j x z
   promoted_told _ _ _ (Rebuilds.NoneIs x none) array next i same = absurd (cc)
   promoted_told _ _ _ (Rebuilds.Unread j t into refusal x y is below loads) array next i same = absurd (cc)
@@ -177,7 +177,7 @@ module _ (was : ArrayState) where
         sound = λ honest below row in_row. absurd (omega (arith, at_end, below));
       })
 
-  pub dropped_told : (answer : Result Progress Refusal) (x z : Point) → Rebuilds was answer x z → IsArray (unopened x.member)
+  pub dropped_told : (answer : Result Progress Refusal) (x z : Snapshot) → Rebuilds was answer x z → IsArray (unopened x.member)
       → NextIsRebuilt was x → (j : ℕ) → answer ≡ Ok (Dropped j) → WasDropped was j x z
   dropped_told _ _ _ (Rebuilds.NoneIs x none) array next i same = absurd (cc)
   dropped_told _ _ _ (Rebuilds.Unread j t into refusal x y is below loads) array next i same = absurd (cc)

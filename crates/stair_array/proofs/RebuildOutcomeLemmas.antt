@@ -14,13 +14,13 @@ use Rattle.stair_super.specs.declared.mark.Mark.TheVariants as mark
 use Rattle.stair_member.specs.Membership.{Membership, why_of}
 use Rattle.stair_state.specs.Blocks.{Codewords}
 use Rattle.stair_state.specs.State.{Content}
-use Rattle.stair_session.specs.Courses.{Point}
-use Rattle.stair_session.specs.Rebuilding.{IsRebuiltTo}
-use Rattle.stair_session.specs.Returning.{Returning}
-use Rattle.stair_session.specs.Session.{ArrayState, IsRebuiltIn}
-use Rattle.stair_session.proofs.SeatLemmas.{listed_member, past_down}
-use Rattle.stair_session.proofs.Serving.{IsCalmTo, IsGoing, LeadsReads}
-use Rattle.stair_session.proofs.Mending.{calm_going, LeadsBeside, LeadsPromotions}
+use Rattle.stair_invariant.specs.Effects.{Snapshot}
+use Rattle.stair_invariant.specs.Rebuilding.{IsRebuiltTo}
+use Rattle.stair_invariant.specs.Returning.{Returning}
+use Rattle.stair_invariant.specs.Session.{ArrayState, IsRebuiltIn}
+use Rattle.stair_invariant.proofs.SeatLemmas.{listed_member, past_down}
+use Rattle.stair_invariant.proofs.Serving.{StaysWithinToleranceTo, IsGoing, LeadsReads}
+use Rattle.stair_invariant.proofs.Mending.{calm_going, LeadsBeside, LeadsPromotions}
 use Rattle.stair_array.specs.Causes.{IsNextChunk}
 use Rattle.stair_array.specs.Machine.{Chunk, Nothing, Progress, Refusal}
 use Rattle.stair_array.specs.Mends.{Rebuilds}
@@ -37,7 +37,7 @@ use Rattle.stair_array.proofs.ServingLemmas.{going_sooner}
 
 -- a rack that goes on at last did so before
 going_before : (returning : Returning) (g : Geometry) (before mid late new : List Happening) → Ran any_call before mid → Ran any_call mid late
-    → Ran any_call late new → IsCalmTo returning g before new → IsGoing returning g before mid × IsGoing returning g before late
+    → Ran any_call late new → StaysWithinToleranceTo returning g before new → IsGoing returning g before mid × IsGoing returning g before late
 going_before returning g before mid late new upto first second calm =
     let upto_late = ran_join {allowed = any_call} upto first in
     let on = calm_going returning g before new (ran_join {allowed = any_call} upto_late second) calm in
@@ -46,11 +46,11 @@ going_before returning g before mid late new upto first second calm =
 
 module _ (returning : Returning) (laws : LeadsReads returning) (besides : LeadsBeside returning) (promotions : LeadsPromotions returning)
     (before : List Happening) (was : ArrayState) (words : Codewords) (kept : Content) where
-  abbrev ServesAt : Point → Type 0
+  abbrev ServesAt : Snapshot → Type 0
   ServesAt x = Serves returning before was.rebuild was.stopped words kept x x.told.history
 
   -- no slot that isn't rebuilt is marked so
-  none_marked : (x : Point) → ServesAt x → ((i : ℕ) → ¬ IsRebuiltIn x.member i) → (i : ℕ)
+  none_marked : (x : Snapshot) → ServesAt x → ((i : ℕ) → ¬ IsRebuiltIn x.member i) → (i : ℕ)
       → ¬ (mark_in x.member.array i ≡ mark.Rebuilding)
   none_marked x is none i up =
       elim (cases_lt i x.member.array.geometry.n) [
@@ -63,16 +63,16 @@ module _ (returning : Returning) (laws : LeadsReads returning) (besides : LeadsB
             absurd (cc)
       ]
 
-  all_chunks : (x : Point) → ServesAt x → (j t : ℕ) → IsNextChunk was j t
+  all_chunks : (x : Snapshot) → ServesAt x → (j t : ℕ) → IsNextChunk was j t
       → t ≡ x.member.array.geometry.stripes → IsAttached x.told.history j
       → IsRebuiltTo x.member.array.geometry words j x.member.array.geometry.stripes x.told.history x.told.history
   all_chunks x is j t at last attached =
       subst (λ (k : ℕ). IsRebuiltTo x.member.array.geometry words j k x.told.history x.told.history) last
       (chunks_next returning before was (array_with was.rebuild was.stopped x) words kept x.told.history j t is at (λ r same slot. same) attached)
 
-  pub outcome : (answer : Result Progress Refusal) (x z : Point) → Rebuilds was answer x z → was.member ≡ x.member
+  pub outcome : (answer : Result Progress Refusal) (x z : Snapshot) → Rebuilds was answer x z → was.member ≡ x.member
       → ServesAt x → NextIsRebuilt was x → IsTrue z.told.honest
-      → IsCalmTo returning x.member.array.geometry before z.told.history → Outcome returning before was words kept x.member answer z
+      → StaysWithinToleranceTo returning x.member.array.geometry before z.told.history → Outcome returning before was words kept x.member answer z
   outcome _ _ _ (Rebuilds.NoneIs x none) member is next honest calm =
       let on = calm_going returning x.member.array.geometry before x.told.history is.is_open.ran calm in
       Goes Nothing x (plain returning before (array_with was.rebuild was.stopped x) words kept x.told.history is) refl
@@ -104,7 +104,7 @@ module _ (returning : Returning) (laws : LeadsReads returning) (besides : LeadsB
       let on_z =
       calm_going returning x.member.array.geometry before z.told.history (ran_join {allowed = any_call} upto (wrote.later.ran honest)) calm in
       let on_y = going_sooner returning x.member.array.geometry before y.told.history z.told.history upto (wrote.later.ran honest) on_z in
-      subst (λ (p : Point). Outcome returning before was words kept x.member (Ok (Chunk j t)) p)
+      subst (λ (p : Snapshot). Outcome returning before was words kept x.member (Ok (Chunk j t)) p)
       (sym (is_now returning laws besides promotions before was words kept x is next j t into y at below loads honest_y on_y rebuilt reply.Done z
       wrote honest))
       (wrote_chunk returning laws besides promotions before was words kept x is next j t into y at below loads honest_y on_y rebuilt reply.Done z
@@ -127,7 +127,7 @@ module _ (returning : Returning) (laws : LeadsReads returning) (besides : LeadsB
       promote_ends returning laws besides promotions before was words kept j answer x y promotes (next j t at)
       (plain returning before (array_with was.rebuild was.stopped x) words kept x.told.history is) (all_chunks x is j t at last) honest calm
 
-  pub moments : (answer : Result Progress Refusal) (x z : Point) → Rebuilds was answer x z
+  pub moments : (answer : Result Progress Refusal) (x z : Snapshot) → Rebuilds was answer x z
       → ServesAt x → NextIsRebuilt was x → IsTrue z.told.honest
       → AtEveryMoment (MovesAt returning before kept x.member) x.told.history z.told.history
   moments _ _ _ (Rebuilds.NoneIs x none) is next honest =

@@ -8,22 +8,22 @@ use Rattle.stair_rack.specs.Count.{Rose}
 use Rattle.stair_rack.specs.History.{Called, Happening, SlotCall, Sync}
 use Rattle.stair_rack.specs.Placed.{IsSlot, IsWriteOf, IsGoneSlot, Writes}
 use Rattle.stair_rack.specs.Stretch.{WasAnswered}
-use Rattle.stair_rack.specs.Telling.{Telling}
+use Rattle.stair_rack.specs.RackState.{RackState}
 use Rattle.stair_rack.specs.declared.rack.Reply.{Reply}
 use Rattle.stair_rack.specs.declared.rack.Reply.TheVariants as reply
 use Rattle.stair_rack.proofs.MomentLemmas.{IsThis, calls_ran, ran_none, ran_weakened}
 use Rattle.stair_rack.proofs.OfflineLemmas.{held_on, offline_from_unready, unready_lasts, unready_when_stopped}
 use Rattle.stair_rack.proofs.StretchLemmas.{answered_allowed}
-use Rattle.stair_rack.proofs.TellingLemmas.{later_none}
+use Rattle.stair_rack.proofs.RackStateLemmas.{later_none}
 use Rattle.stair_member.specs.Membership.{IsHere, IsMembership, Membership, why_of}
 use Rattle.stair_member.specs.declared.fault.FenceFault.{FenceFault}
 use Rattle.stair_member.specs.declared.why.Why.TheVariants as why
 use Rattle.stair_stripes.specs.Placing.{cell_writes}
 use Rattle.stair_state.specs.Redoing.{Placing}
-use Rattle.stair_session.specs.Courses.{Fenced, LeavesOut, NoneWas, Point, point}
-use Rattle.stair_session.specs.Session.{IsArray}
+use Rattle.stair_invariant.specs.Effects.{Fenced, FencesGone, NoneWas, Snapshot, snapshot}
+use Rattle.stair_invariant.specs.Session.{IsArray}
 use Rattle.stair_array.specs.Causes.{WasGoneTo}
-use Rattle.stair_array.specs.Mends.{Drops, SyncsSlot, WritesChunk}
+use Rattle.stair_array.specs.Mends.{FencesSlot, SyncsSlot, WritesChunk}
 use Rattle.stair_array.specs.Promise.{IsAnsweredGone, unopened}
 use Rattle.stair_array.proofs.AnsweredLemmas.{IsLeftOut, out_gone, out_left_out, written_gone}
 use Rattle.stair_array.proofs.CauseLemmas.{left_array, left_refused}
@@ -36,7 +36,7 @@ use Rattle.stair_array.proofs.ReadCourseLemmas.{told_part}
 
 -- A CHUNK
 
-module _ (j t : ℕ) (into : Stripe) (answer : Reply) (x y : Point) (wrote : WritesChunk j t into answer x y) where
+module _ (j t : ℕ) (into : Stripe) (answer : Reply) (x y : Snapshot) (wrote : WritesChunk j t into answer x y) where
   abbrev what : Writes
   what = cell_writes x.member.array.geometry wrote.redo into
 
@@ -80,7 +80,7 @@ unready_synced old new j (Told acts runs answered is) =
 unready_synced old new j (Untold acts runs answered is_stopped nothing is) =
     subst (λ (h : List Happening). is_ready h j ≡ false) (sym is) (unready_when_stopped (acts ++ old) j is_stopped)
 
-module _ (j : ℕ) (answer : Reply) (x y : Point) (syncs : SyncsSlot j answer x y) where
+module _ (j : ℕ) (answer : Reply) (x y : Snapshot) (syncs : SyncsSlot j answer x y) where
   sync_beside : (i : ℕ) (call : SlotCall) → IsThis j (Sync answer) i call → attaches_none i call
   sync_beside i call this = subst (attaches_none i) (sym this.1) tt
 
@@ -117,46 +117,46 @@ module _ (j : ℕ) (answer : Reply) (x y : Point) (syncs : SyncsSlot j answer x 
 -- A SLOT THAT FALLS
 
 -- slot j was gone, no other slot answered so meanwhile, and it is dropped
-pub record Falls (j : ℕ) (refusal : Option FenceFault) (x z : Point) : Type 0 where
-  pub mid : Telling
+pub record Falls (j : ℕ) (refusal : Option FenceFault) (x z : Snapshot) : Type 0 where
+  pub mid : RackState
   pub before : IsAfter x.told mid
   pub was : WasGoneTo x.member j x.told mid
   pub told : IsTrue mid.honest → (i : ℕ) (call : SlotCall) → WasAnswered i call x.told.history mid.history → IsAnsweredGone call → i ≡ j
-  pub drops : Drops j refusal (point x.member mid) z
+  pub drops : FencesSlot j refusal (snapshot x.member mid) z
 
-pub chunk_falls : (j t : ℕ) (into : Stripe) (refusal : Option FenceFault) (x y z : Point) → WritesChunk j t into reply.Gone x y
-    → Drops j refusal y z → IsMembership x.member → IsHere x.member j → Falls j refusal x z
+pub chunk_falls : (j t : ℕ) (into : Stripe) (refusal : Option FenceFault) (x y z : Snapshot) → WritesChunk j t into reply.Gone x y
+    → FencesSlot j refusal y z → IsMembership x.member → IsHere x.member j → Falls j refusal x z
 chunk_falls j t into refusal x y z wrote drops rules here = record {
   mid = y.told;
   before = chunk_after j t into reply.Gone x y wrote;
   was = chunk_gone j t into reply.Gone x y wrote refl rules here;
   told = λ honest i call was gone. (chunk_told j t into reply.Gone x y wrote honest i call was gone).0;
-  drops = subst (λ (m : Membership). Drops j refusal (point m y.told) z) wrote.member drops;
+  drops = subst (λ (m : Membership). FencesSlot j refusal (snapshot m y.told) z) wrote.member drops;
 }
 
-pub sync_falls : (j : ℕ) (refusal : Option FenceFault) (x y z : Point) → SyncsSlot j reply.Gone x y → Drops j refusal y z → Falls j refusal x z
+pub sync_falls : (j : ℕ) (refusal : Option FenceFault) (x y z : Snapshot) → SyncsSlot j reply.Gone x y → FencesSlot j refusal y z → Falls j refusal x z
 sync_falls j refusal x y z syncs drops = record {
   mid = y.told;
   before = sync_after j reply.Gone x y syncs;
   was = sync_gone j reply.Gone x y syncs refl;
   told = λ honest i call was gone. (sync_told j reply.Gone x y syncs honest i call was gone).0;
-  drops = subst (λ (m : Membership). Drops j refusal (point m y.told) z) syncs.member drops;
+  drops = subst (λ (m : Membership). FencesSlot j refusal (snapshot m y.told) z) syncs.member drops;
 }
 
-pub gone_rose : (m : Membership) (j : ℕ) (old new : Telling) → WasGoneTo m j old new → Rose (old.gones j) (new.gones j)
+pub gone_rose : (m : Membership) (j : ℕ) (old new : RackState) → WasGoneTo m j old new → Rose (old.gones j) (new.gones j)
 gone_rose m j old new (WasGoneTo.Offline gone) = gone.rose
 gone_rose m j old new (WasGoneTo.PastEnd rose here has needs small) = rose
 
-module _ (j : ℕ) (refusal : Option FenceFault) (x z : Point) (falls : Falls j refusal x z) (rules : IsMembership x.member)
+module _ (j : ℕ) (refusal : Option FenceFault) (x z : Snapshot) (falls : Falls j refusal x z) (rules : IsMembership x.member)
     (here : IsHere x.member j) where
-  leaves : LeavesOut falls.drops.gone refusal (point x.member falls.mid) z
+  leaves : FencesGone falls.drops.gone refusal (snapshot x.member falls.mid) z
   leaves = falls.drops.leaves
 
   own : HasSlot falls.drops.gone j
   own = (falls.drops.alone j).1 refl
 
   after : IsAfter falls.mid z.told
-  after = out_after falls.drops.gone refusal (point x.member falls.mid) z leaves
+  after = out_after falls.drops.gone refusal (snapshot x.member falls.mid) z leaves
 
   some : 1 ≤ slot_count falls.drops.gone
   some =
@@ -173,14 +173,14 @@ module _ (j : ℕ) (refusal : Option FenceFault) (x z : Point) (falls : Falls j 
   pub falls_part : IsPart 0 x z
   falls_part = by leaves
     where
-      by : LeavesOut falls.drops.gone refusal (point x.member falls.mid) z → IsPart 0 x z
+      by : FencesGone falls.drops.gone refusal (snapshot x.member falls.mid) z → IsPart 0 x z
       by (NoneWas none same fine) = absurd (none j own)
       by (Fenced i has answer fine e) =
           fence_part falls.drops.gone x.member z.member answer x.told falls.mid z.told e rules falls.before each_here each_gone 0
           (let one = some in omega (arith, one))
 
   pub falls_why : why_of z.member j ≡ why.Gone
-  falls_why = out_gone falls.drops.gone refusal (point x.member falls.mid) z leaves j own here.below
+  falls_why = out_gone falls.drops.gone refusal (snapshot x.member falls.mid) z leaves j own here.below
 
   pub falls_left_out : IsTrue z.told.honest → IsLeftOut x z
   falls_left_out =
@@ -192,9 +192,9 @@ module _ (j : ℕ) (refusal : Option FenceFault) (x z : Point) (falls : Falls j 
 
   pub falls_stops : (fault : FenceFault) → refusal ≡ Some fault → StopsBy fault x z
   falls_stops fault is = record {
-    by = left_refused falls.drops.gone refusal (point x.member falls.mid) z leaves fault is;
+    by = left_refused falls.drops.gone refusal (snapshot x.member falls.mid) z leaves fault is;
     one = record { slot = j; here = here; gone = falls_gone };
   }
 
   pub falls_array : refusal ≡ None → IsArray (unopened x.member) → IsArray (unopened z.member)
-  falls_array = left_array falls.drops.gone refusal (point x.member falls.mid) z leaves
+  falls_array = left_array falls.drops.gone refusal (snapshot x.member falls.mid) z leaves

@@ -14,14 +14,14 @@ use Rattle.stair_member.specs.Membership.{Membership}
 use Rattle.stair_member.specs.Seats.{Seat, Seats}
 use Rattle.stair_state.specs.Blocks.{Codewords}
 use Rattle.stair_state.specs.State.{Content}
-use Rattle.stair_session.specs.Courses.{Point}
-use Rattle.stair_session.specs.InSession.{state_with}
-use Rattle.stair_session.specs.Opening.{StaysArray, opened_with}
-use Rattle.stair_session.specs.Returning.{Returning, StandsFor, StandsForAlone}
-use Rattle.stair_session.specs.SeatSteps.{EachMayDrop, MayDrop, SeatGoes}
-use Rattle.stair_session.specs.Session.{ArrayState, IsOpenWith, seats_in}
-use Rattle.stair_session.proofs.StaysArrayLemmas.{drops_twice}
-use Rattle.stair_session.proofs.Serving.{IsCalmTo, IsServing}
+use Rattle.stair_invariant.specs.Effects.{Snapshot}
+use Rattle.stair_invariant.specs.InSession.{state_with}
+use Rattle.stair_invariant.specs.Opening.{StaysArray, opened_with}
+use Rattle.stair_invariant.specs.Returning.{Returning, StandsFor, StandsForAlone}
+use Rattle.stair_invariant.specs.SeatSteps.{EachMayDrop, MayDrop, SeatGoes}
+use Rattle.stair_invariant.specs.Session.{ArrayState, IsOpenWith, seats_in}
+use Rattle.stair_invariant.proofs.StaysArrayLemmas.{drops_twice}
+use Rattle.stair_invariant.proofs.Serving.{StaysWithinToleranceTo, IsServing}
 use Rattle.stair_array.specs.Machine.{Chunk, Dropped, EpochsSpent, Nothing, Progress, Promoted, RebuildNext, Refusal, SeatsRebuilt}
 use Rattle.stair_array.specs.Promise.{KeepsRebuild}
 use Rattle.stair_array.proofs.OpenStepLemmas.{calm_over}
@@ -87,7 +87,7 @@ module _ (old mid new : Seats) (first : EachMayDrop old mid) where
 -- AT EACH MOMENT an image represents the array, with seats that the step may leave it with.
 module _ (returning : Returning) (before : List Happening) (kept : Content) where
   abbrev pub MovesAt : Membership → List Happening → Type 0
-  MovesAt m c = IsCalmTo returning m.array.geometry before c → (image : Image) → CrashMayLeave c image
+  MovesAt m c = StaysWithinToleranceTo returning m.array.geometry before c → (image : Image) → CrashMayLeave c image
       → (array : Configuration) × StandsForAlone returning (state_with m kept None array) image × MayMove (seats_in m.array) (seats_in array)
 
   pub moments_sooner : (m last : Membership) → StaysArray m last → (old new : List Happening) → AtEveryMoment (MovesAt last) old new
@@ -105,15 +105,15 @@ module _ (returning : Returning) (before : List Happening) (kept : Content) wher
 
 -- WHAT IT COMES TO: the array serves on, whatever rebuild it has by that; or an epoch was refused since no number is left to draw.
 module _ (returning : Returning) (before : List Happening) (was : ArrayState) (words : Codewords) (kept : Content) where
-  pub data Outcome (m : Membership) : Result Progress Refusal → Point → Type 0 where
-    Goes : (progress : Progress) (y : Point) → IsServing returning before (opened_with y.member) words kept y.told.history
+  pub data Outcome (m : Membership) : Result Progress Refusal → Snapshot → Type 0 where
+    Goes : (progress : Progress) (y : Snapshot) → IsServing returning before (opened_with y.member) words kept y.told.history
         → y.member.array.geometry ≡ m.array.geometry → SeatsRebuilt progress (seats_in m.array) (seats_in y.member.array)
         → ((b : ArrayState) → b.member ≡ y.member → KeepsRebuild RebuildNext (Ok progress) was b → IsOpenWith before b words y.told.history)
         → Outcome m (Ok progress) y
-    Spent : (y : Point) (array : Configuration) → StandsFor returning (state_with m kept None array) y.told.history
+    Spent : (y : Snapshot) (array : Configuration) → StandsFor returning (state_with m kept None array) y.told.history
         → MayMove (seats_in m.array) (seats_in array) → Outcome m (Err EpochsSpent) y
 
-  pub outcome_sooner : (m last : Membership) → StaysArray m last → (answer : Result Progress Refusal) (y : Point) → ¬ (answer ≡ Ok Nothing)
+  pub outcome_sooner : (m last : Membership) → StaysArray m last → (answer : Result Progress Refusal) (y : Snapshot) → ¬ (answer ≡ Ok Nothing)
       → Outcome last answer y → Outcome m answer y
   outcome_sooner m last stays _ _ some (Spent y array stands moved) =
       Spent y array

@@ -12,13 +12,13 @@ use Rattle.stair_super.specs.declared.configuration.Configuration.{Configuration
 use Rattle.stair_member.specs.Membership.{Membership}
 use Rattle.stair_member.specs.declared.fault.FenceFault.TheVariants as fence
 use Rattle.stair_state.specs.State.{State}
-use Rattle.stair_session.specs.Courses.{Point, point}
-use Rattle.stair_session.specs.InSession.{state_with}
-use Rattle.stair_session.specs.Opening.{opened_with}
-use Rattle.stair_session.specs.Returning.{IsCalm, Returning, StandsFor}
-use Rattle.stair_session.specs.Session.{IsOpenWith, seats_in}
-use Rattle.stair_session.proofs.Mending.{LeadsBeside, LeadsPromotions}
-use Rattle.stair_session.proofs.Serving.{IsCalmTo, IsServing, LeadsReads}
+use Rattle.stair_invariant.specs.Effects.{Snapshot, snapshot}
+use Rattle.stair_invariant.specs.InSession.{state_with}
+use Rattle.stair_invariant.specs.Opening.{opened_with}
+use Rattle.stair_invariant.specs.Returning.{StaysWithinTolerance, Returning, StandsFor}
+use Rattle.stair_invariant.specs.Session.{IsOpenWith, seats_in}
+use Rattle.stair_invariant.proofs.Mending.{LeadsBeside, LeadsPromotions}
+use Rattle.stair_invariant.proofs.Serving.{StaysWithinToleranceTo, IsServing, LeadsReads}
 use Rattle.stair_array.specs.Machine.{Answer, EpochsSpent, HoldsAfter, Progress, RebuildNext, Recover, Refusal, Row, SeatsAfter, SeatsRebuilt}
 use Rattle.stair_array.specs.Promise.{CanBeDone, IsInState, IsLed, IsLeftBy, IsOpenFor, Keeps, KeepsRebuild, Performs, Seen, is_open, LeadsStep}
 use Rattle.stair_array.proofs.DrawsLemmas.{done_with_room}
@@ -45,10 +45,10 @@ module _ (returning : Returning) (laws : LeadsReads returning) (besides : LeadsB
   pub serves : IsServing returning before (forgetting p.was) begins.words s.content x.told.history
   serves = serves_bare returning laws RebuildNext no_opening answer events x y p before s state history
 
-  calm_begun : (h : List Happening) → IsCalm returning s.geometry (is_open x.session) before h → IsCalmTo returning m.array.geometry before h
+  calm_begun : (h : List Happening) → StaysWithinTolerance returning s.geometry (is_open x.session) before h → StaysWithinToleranceTo returning m.array.geometry before h
   calm_begun = calm_first returning laws RebuildNext no_opening answer events x y p before s state
 
-  next : NextIsRebuilt p.was (point m x.told)
+  next : NextIsRebuilt p.was (snapshot m x.told)
   next = next_rebuilt p.was x.told begins.is_open.array
 
   -- ROWS
@@ -78,15 +78,15 @@ module _ (returning : Returning) (laws : LeadsReads returning) (besides : LeadsB
 
   -- WHERE IT LEADS
 
-  led : (given : Answer RebuildNext) (v : Point) → v ≡ point last y.told → given ≡ answer
-      → Outcome returning before p.was begins.words s.content m given v → IsCalmTo returning m.array.geometry before y.told.history
+  led : (given : Answer RebuildNext) (v : Snapshot) → v ≡ snapshot last y.told → given ≡ answer
+      → Outcome returning before p.was begins.words s.content m given v → StaysWithinToleranceTo returning m.array.geometry before y.told.history
       → IsLed returning m before s RebuildNext answer y
   led _ _ at is_answer (Goes progress v serves_v same moved on) calm =
       let geometry : last.array.geometry ≡ m.array.geometry =
-      subst (λ (u : Point). u.member.array.geometry ≡ m.array.geometry) at same in
+      subst (λ (u : Snapshot). u.member.array.geometry ≡ m.array.geometry) at same in
       let now : State = state_with last s.content None last.array in
       let now_serves =
-      subst (λ (u : Point). IsServing returning before (opened_with u.member) begins.words s.content u.told.history) at serves_v in
+      subst (λ (u : Snapshot). IsServing returning before (opened_with u.member) begins.words s.content u.told.history) at serves_v in
       record {
         state = now;
         is_step = record {
@@ -95,14 +95,14 @@ module _ (returning : Returning) (laws : LeadsReads returning) (besides : LeadsB
           row =
               subst (λ (r : Answer RebuildNext). Row RebuildNext r (seats_in m.array) s now) is_answer
               (row (Ok progress) now last.array (geometry ∙ begins.geometry) refl refl refl
-              (subst (λ (u : Point). SeatsRebuilt progress (seats_in m.array) (seats_in u.member.array)) at moved));
+              (subst (λ (u : Snapshot). SeatsRebuilt progress (seats_in m.array) (seats_in u.member.array)) at moved));
         };
         is_in =
             serves_now returning laws RebuildNext no_opening answer events x y p before s state begins.words s.content geometry
             (record {
               is_open =
-                  subst (λ (u : Point). IsOpenWith before p.is begins.words u.told.history) at
-                  (on p.is (sym (ap (λ (u : Point). u.member) at))
+                  subst (λ (u : Snapshot). IsOpenWith before p.is begins.words u.told.history) at
+                  (on p.is (sym (ap (λ (u : Snapshot). u.member) at))
                   (subst (λ (r : Answer RebuildNext). KeepsRebuild RebuildNext r p.was p.is) (sym is_answer) p.rebuild));
               history = now_serves.history;
               of = now_serves.of;
@@ -122,20 +122,20 @@ module _ (returning : Returning) (laws : LeadsReads returning) (besides : LeadsB
         };
         is_in =
             stops_as returning laws RebuildNext no_opening answer events x y p before s state now
-            (subst (λ (u : Point). StandsFor returning now u.told.history) at stands)
+            (subst (λ (u : Snapshot). StandsFor returning now u.told.history) at stands)
             (kept_fault Progress fence.EpochsSpent p.is.stopped
             (subst (λ (r : Answer RebuildNext). Keeps r p.is.stopped) (sym is_answer)
             (goes_on_as returning laws RebuildNext no_opening answer events x y p before s state).1));
       }
 
   -- what it comes to
-  module _ (calm : IsCalm returning s.geometry (is_open x.session) before y.told.history) where
-    abbrev ends : Point
-    ends = point last y.told
+  module _ (calm : StaysWithinTolerance returning s.geometry (is_open x.session) before y.told.history) where
+    abbrev ends : Snapshot
+    ends = snapshot last y.told
 
     comes : Outcome returning before p.was begins.words s.content m answer ends
     comes =
-        outcome returning laws besides promotions before p.was begins.words s.content answer (point m x.told) ends p.does refl serves next honest
+        outcome returning laws besides promotions before p.was begins.words s.content answer (snapshot m x.told) ends p.does refl serves next honest
         (calm_begun y.told.history calm)
 
     pub leads : IsLed returning m before s RebuildNext answer y
@@ -145,19 +145,19 @@ module _ (returning : Returning) (laws : LeadsReads returning) (besides : LeadsB
     pub only_spent : (refusal : Refusal) → answer ≡ Err refusal → refusal ≡ EpochsSpent
     only_spent refusal = by answer ends comes
       where
-        by : (given : Answer RebuildNext) (v : Point) → Outcome returning before p.was begins.words s.content m given v → given ≡ Err refusal
+        by : (given : Answer RebuildNext) (v : Snapshot) → Outcome returning before p.was begins.words s.content m given v → given ≡ Err refusal
             → refusal ≡ EpochsSpent
         by _ _ (Goes progress v serves_v same moved on) is = absurd (cc)
         by _ _ (Spent v array stands moved) is = cc
 
   -- WHAT A CRASH LEAVES
 
-  pub cuts : (c : List Happening) → IsMoment x.told.history c y.told.history → IsCalm returning s.geometry (is_open x.session) before c
+  pub cuts : (c : List Happening) → IsMoment x.told.history c y.told.history → StaysWithinTolerance returning s.geometry (is_open x.session) before c
       → EachImage (IsLeftBy returning RebuildNext m before c s) c
   cuts c at calm image left =
       let is =
       at_moment {P = MovesAt returning before s.content m}
-      (moments returning laws besides promotions before p.was begins.words s.content answer (point m x.told) (point last y.told) p.does serves next
+      (moments returning laws besides promotions before p.was begins.words s.content answer (snapshot m x.told) (snapshot last y.told) p.does serves next
       honest) at (calm_begun c calm)
       image left in
       record {
@@ -175,7 +175,7 @@ module _ (returning : Returning) (laws : LeadsReads returning) (besides : LeadsB
 
   -- IT IS DONE where numbers are left to draw
 
-  pub complete : IsCalm returning s.geometry (is_open x.session) before y.told.history
+  pub complete : StaysWithinTolerance returning s.geometry (is_open x.session) before y.told.history
       → CanBeDone RebuildNext s m x.told.history y.told.history → IsOk answer
   complete calm can =
       done_with_room RebuildNext (λ j same. cc) answer events x y p serves.is_open.array.member can.draws (λ cause. cause.1) (only_spent calm)

@@ -19,20 +19,20 @@ use Rattle.stair_member.specs.declared.fault.FenceFault.{FenceFault}
 use Rattle.stair_member.specs.declared.why.Why.{Why}
 use Rattle.stair_state.specs.Blocks.{Codewords}
 use Rattle.stair_state.specs.State.{Content}
-use Rattle.stair_session.specs.Courses.{Point, point}
-use Rattle.stair_session.specs.Leading.{led_to, rebuild_if, rebuild_in}
-use Rattle.stair_session.specs.Opening.{StaysArray, opened_with}
-use Rattle.stair_session.specs.Rebuilding.{IsRebuiltTo, Rebuild}
-use Rattle.stair_session.specs.Returning.{Returning}
-use Rattle.stair_session.specs.SeatSteps.{MayDrop}
-use Rattle.stair_session.specs.Session.{ArrayState, IsOpenWith, IsRebuiltIn, seats_in}
-use Rattle.stair_session.proofs.OpenWithLemmas.{rebuilds_on}
-use Rattle.stair_session.proofs.Serving.{IsCalmTo, IsGoing, IsServing, LeadsReads}
-use Rattle.stair_session.proofs.Mending.{calm_going, LeadsBeside, LeadsPromotions}
+use Rattle.stair_invariant.specs.Effects.{Snapshot, snapshot}
+use Rattle.stair_invariant.specs.Leading.{led_to, rebuild_if, rebuild_in}
+use Rattle.stair_invariant.specs.Opening.{StaysArray, opened_with}
+use Rattle.stair_invariant.specs.Rebuilding.{IsRebuiltTo, Rebuild}
+use Rattle.stair_invariant.specs.Returning.{Returning}
+use Rattle.stair_invariant.specs.SeatSteps.{MayDrop}
+use Rattle.stair_invariant.specs.Session.{ArrayState, IsOpenWith, IsRebuiltIn, seats_in}
+use Rattle.stair_invariant.proofs.OpenWithLemmas.{rebuilds_on}
+use Rattle.stair_invariant.proofs.Serving.{StaysWithinToleranceTo, IsGoing, IsServing, LeadsReads}
+use Rattle.stair_invariant.proofs.Mending.{calm_going, LeadsBeside, LeadsPromotions}
 use Rattle.stair_array.specs.Calls.{LoadsStripe, answer_of}
 use Rattle.stair_array.specs.Causes.{IsNextChunk}
 use Rattle.stair_array.specs.Machine.{Chunk, Dropped, EpochsSpent, IsFinal, Nothing, Progress, Refusal}
-use Rattle.stair_array.specs.Mends.{Drops, Promotes, WritesChunk}
+use Rattle.stair_array.specs.Mends.{FencesSlot, Promotes, WritesChunk}
 use Rattle.stair_array.specs.Promise.{KeepsProgress}
 use Rattle.stair_array.proofs.ChunkServingLemmas.{chunk_more, chunk_serves, chunk_stands}
 use Rattle.stair_array.proofs.LedOnLemmas.{led_open, rebuilt_why}
@@ -50,18 +50,18 @@ use Rattle.stair_array.proofs.RebuildSeatLemmas.{Goes, MovesAt, Outcome, Spent, 
 module _ (returning : Returning) (laws : LeadsReads returning) (besides : LeadsBeside returning) (promotions : LeadsPromotions returning)
     (before : List Happening) (was : ArrayState) (words : Codewords) (kept : Content) where
   -- where a stripe was loaded
-  pub record IsLoadedAs (x : Point) (t : ℕ) (into : Stripe) (y : Point) : Type 0 where
+  pub record IsLoadedAs (x : Snapshot) (t : ℕ) (into : Stripe) (y : Snapshot) : Type 0 where
     pub serves : ServesOn returning before was.rebuild was.stopped words kept x y
     pub stays : StaysArray x.member y.member
     pub same : into ≡ words t
 
-  loaded_as : (x : Point) (t : ℕ) (into : Stripe) (answer : Result (Unit {0}) Refusal) (y : Point)
+  loaded_as : (x : Snapshot) (t : ℕ) (into : Stripe) (answer : Result (Unit {0}) Refusal) (y : Snapshot)
       → Comes returning before was.rebuild was.stopped words kept (into ≡ words t) x answer y → answer ≡ Ok tt → IsLoadedAs x t into y
   loaded_as x t into _ _ (Comes.Has y serves stays live same) fine = record { serves = serves; stays = stays; same = same }
   loaded_as x t into _ _ (Comes.Lacks refusal y serves stays not_final) fine = absurd (cc)
   loaded_as x t into _ _ (Comes.Stops fault y at) fine = absurd (cc)
 
-  module _ (x : Point) (is : Serves returning before was.rebuild was.stopped words kept x x.told.history)
+  module _ (x : Snapshot) (is : Serves returning before was.rebuild was.stopped words kept x x.told.history)
       (next : NextIsRebuilt was x) where
     abbrev a : ArrayState
     a = array_with was.rebuild was.stopped x
@@ -70,7 +70,7 @@ module _ (returning : Returning) (laws : LeadsReads returning) (besides : LeadsB
     marked_first j t at = let rebuilt = next j t at in is.is_open.array.marks j rebuilt.below ∙ ap mark_for rebuilt.why
 
     -- with this member it is the array that it is led to
-    pub led_on : (y : Point) → ServesOn returning before was.rebuild was.stopped words kept x y → (b : ArrayState) → b.member ≡ y.member
+    pub led_on : (y : Snapshot) → ServesOn returning before was.rebuild was.stopped words kept x y → (b : ArrayState) → b.member ≡ y.member
         → KeepsProgress was b → IsOpenWith before b words y.told.history
     led_on y serves b same keeps =
         led_open before was b words y.told.history
@@ -78,8 +78,8 @@ module _ (returning : Returning) (laws : LeadsReads returning) (besides : LeadsB
 
     -- A STRIPE THAT WASN'T LOADED, since no number is left to draw
 
-    unread_by : (t : ℕ) (u : Point) → IsTrue u.told.honest → IsCalmTo returning x.member.array.geometry before u.told.history → (into : Stripe)
-        (answer : Result (Unit {0}) Refusal) (y : Point) → Comes returning before was.rebuild was.stopped words kept
+    unread_by : (t : ℕ) (u : Snapshot) → IsTrue u.told.honest → StaysWithinToleranceTo returning x.member.array.geometry before u.told.history → (into : Stripe)
+        (answer : Result (Unit {0}) Refusal) (y : Snapshot) → Comes returning before was.rebuild was.stopped words kept
         (into ≡ words t) x answer y → y ≡ u
         → answer ≡ Err EpochsSpent → Outcome returning before was words kept x.member (Err EpochsSpent) y
     unread_by t u honest calm into _ _ (Comes.Has y serves stays live same) ends fine = absurd (cc)
@@ -87,12 +87,12 @@ module _ (returning : Returning) (laws : LeadsReads returning) (besides : LeadsB
         absurd (not_final (subst IsFinal (let one : EpochsSpent ≡ other = cc in one) tt))
     unread_by t u honest calm into _ _ (Comes.Stops fault y at) ends fine =
         let stands =
-        refused_stands returning laws before words kept x.member fault y at (subst (λ (p : Point). IsTrue p.told.honest) (sym ends) honest)
-        (subst (λ (p : Point). IsCalmTo returning x.member.array.geometry before p.told.history) (sym ends) calm) in
+        refused_stands returning laws before words kept x.member fault y at (subst (λ (p : Snapshot). IsTrue p.told.honest) (sym ends) honest)
+        (subst (λ (p : Snapshot). StaysWithinToleranceTo returning x.member.array.geometry before p.told.history) (sym ends) calm) in
         Spent y stands.array stands.stands (inl stands.dropped)
 
-    pub unread : (t : ℕ) (into : Stripe) (refusal : Refusal) (y : Point) → t < x.member.array.geometry.stripes → LoadsStripe t into (Err refusal) x y
-        → IsTrue y.told.honest → IsCalmTo returning x.member.array.geometry before y.told.history
+    pub unread : (t : ℕ) (into : Stripe) (refusal : Refusal) (y : Snapshot) → t < x.member.array.geometry.stripes → LoadsStripe t into (Err refusal) x y
+        → IsTrue y.told.honest → StaysWithinToleranceTo returning x.member.array.geometry before y.told.history
         → Outcome returning before was words kept x.member (Err refusal) y
     unread t into refusal y below loads honest calm =
         subst (λ (r : Refusal). Outcome returning before was words kept x.member (Err r) y) (sym spent)
@@ -115,7 +115,7 @@ module _ (returning : Returning) (laws : LeadsReads returning) (besides : LeadsB
 
     -- A STRIPE THAT WAS LOADED
 
-    module _ (j t : ℕ) (into : Stripe) (y : Point) (at : IsNextChunk was j t) (below : t < x.member.array.geometry.stripes)
+    module _ (j t : ℕ) (into : Stripe) (y : Snapshot) (at : IsNextChunk was j t) (below : t < x.member.array.geometry.stripes)
         (loads : LoadsStripe t into (Ok tt) x y) (honest_y : IsTrue y.told.honest) where
       pub upto_y : Ran any_call before y.told.history
       upto_y =
@@ -173,9 +173,9 @@ module _ (returning : Returning) (laws : LeadsReads returning) (besides : LeadsB
 
           -- A CHUNK, which was written or whose slot was gone
 
-          module _ (answer : Reply) (z : Point) (wrote : WritesChunk j t into answer y z) (honest_z : IsTrue z.told.honest) where
-            abbrev pub now : Point
-            now = point y.member z.told
+          module _ (answer : Reply) (z : Snapshot) (wrote : WritesChunk j t into answer y z) (honest_z : IsTrue z.told.honest) where
+            abbrev pub now : Snapshot
+            now = snapshot y.member z.told
 
             pub is_now : z ≡ now
             is_now = λ i. record { member = wrote.member i; told = z.told }
@@ -220,15 +220,15 @@ module _ (returning : Returning) (laws : LeadsReads returning) (besides : LeadsB
                 → IsRebuiltTo y.member.array.geometry words k.slot k.stripe z.told.history z.told.history))) one
                 (rebuilt, (subst (λ (g : Geometry). t + 1 ≤ g.stripes) (sym l.stays.geometry) (omega (arith, further)), more done))))
 
-            module _ (w : Point) (honest_w : IsTrue w.told.honest) (on_z : IsGoing returning y.member.array.geometry before z.told.history) where
-              calm_over_y : IsCalmTo returning x.member.array.geometry before w.told.history
-                  → IsCalmTo returning y.member.array.geometry before w.told.history
+            module _ (w : Snapshot) (honest_w : IsTrue w.told.honest) (on_z : IsGoing returning y.member.array.geometry before z.told.history) where
+              calm_over_y : StaysWithinToleranceTo returning x.member.array.geometry before w.told.history
+                  → StaysWithinToleranceTo returning y.member.array.geometry before w.told.history
               calm_over_y = calm_over returning y.member.array.geometry x.member.array.geometry before w.told.history l.stays.geometry
 
               -- and it is dropped
-              module _ (refusal : Option FenceFault) (drops : Drops j refusal z w) where
-                drops_now : Drops j refusal now w
-                drops_now = subst (λ (p : Point). Drops j refusal p w) is_now drops
+              module _ (refusal : Option FenceFault) (drops : FencesSlot j refusal z w) where
+                drops_now : FencesSlot j refusal now w
+                drops_now = subst (λ (p : Snapshot). FencesSlot j refusal p w) is_now drops
 
                 some_fell : (given : Option FenceFault) → ¬ (answer_of (Dropped j) given ≡ Ok Nothing)
                 some_fell None same = cc
@@ -238,7 +238,7 @@ module _ (returning : Returning) (laws : LeadsReads returning) (besides : LeadsB
                 fell_moments =
                     drop_moments returning laws before was words kept y.member j rebuilt z.told (serves_z on_z) w honest_w refusal drops_now
 
-                pub fell : IsCalmTo returning x.member.array.geometry before w.told.history
+                pub fell : StaysWithinToleranceTo returning x.member.array.geometry before w.told.history
                     → Outcome returning before was words kept x.member (answer_of (Dropped j) refusal) w
                 fell calm =
                     outcome_sooner returning before was words kept x.member y.member l.stays (answer_of (Dropped j) refusal) w (some_fell refusal)
@@ -249,7 +249,7 @@ module _ (returning : Returning) (laws : LeadsReads returning) (besides : LeadsB
               module _ (done : answer ≡ reply.Done) (last : t + 1 ≡ x.member.array.geometry.stripes) (given : Result Progress Refusal)
                   (promotes : Promotes j given z w) where
                 promotes_now : Promotes j given now w
-                promotes_now = subst (λ (p : Point). Promotes j given p w) is_now promotes
+                promotes_now = subst (λ (p : Snapshot). Promotes j given p w) is_now promotes
 
                 whole : IsAttached z.told.history j
                     → IsRebuiltTo y.member.array.geometry words j y.member.array.geometry.stripes z.told.history z.told.history
@@ -262,7 +262,7 @@ module _ (returning : Returning) (laws : LeadsReads returning) (besides : LeadsB
                     promote_moments returning laws besides promotions before was words kept j given now w promotes_now rebuilt (serves_z on_z) whole
                     honest_w
 
-                pub wrote_last : IsCalmTo returning x.member.array.geometry before w.told.history
+                pub wrote_last : StaysWithinToleranceTo returning x.member.array.geometry before w.told.history
                     → Outcome returning before was words kept x.member given w
                 wrote_last calm =
                     outcome_sooner returning before was words kept x.member y.member l.stays given w

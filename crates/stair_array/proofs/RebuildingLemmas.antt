@@ -12,16 +12,16 @@ use Rattle.stair_rack.specs.History.{Happening, SlotCall, Sync}
 use Rattle.stair_rack.specs.Placed.{IsGoneSlot, IsSlot}
 use Rattle.stair_rack.specs.RackCounts.{NoneFalls}
 use Rattle.stair_rack.specs.Stretch.{WasAnswered}
-use Rattle.stair_rack.specs.Telling.{Telling, telling}
+use Rattle.stair_rack.specs.RackState.{RackState, rack_state}
 use Rattle.stair_rack.specs.Writing.{IsOnSlot, Writing}
 use Rattle.stair_rack.specs.declared.rack.Reply.{Reply}
 use Rattle.stair_rack.specs.declared.rack.Reply.TheVariants as reply
 use Rattle.stair_rack.proofs.MomentLemmas.{ran_any}
-use Rattle.stair_rack.proofs.TellingLemmas.{later_called}
+use Rattle.stair_rack.proofs.RackStateLemmas.{later_called}
 use Rattle.stair_member.specs.Epochs.{of_fence}
 use Rattle.stair_member.specs.Establishing.{Fences, Joins, refusal_of}
 use Rattle.stair_member.specs.Membership.{IsHere, Membership, why_of}
-use Rattle.stair_member.specs.declared.aim.Aim.TheVariants.{Promote}
+use Rattle.stair_member.specs.declared.aim.EpochChange.TheVariants.{Promote}
 use Rattle.stair_member.specs.declared.fault.AdmitFault.{AdmitFault}
 use Rattle.stair_member.specs.declared.fault.AdmitFault.TheVariants as admit
 use Rattle.stair_member.specs.declared.fault.FenceFault.{FenceFault}
@@ -33,17 +33,17 @@ use Rattle.stair_journal.specs.Phases.{AnswersGone}
 use Rattle.stair_journal.specs.Redo.{IsRedo}
 use Rattle.stair_journal.specs.declared.redo.Redo.{Redo}
 use Rattle.stair_stripes.specs.Placing.{cell_writes}
-use Rattle.stair_session.specs.Chunks.{AreOfChunk}
-use Rattle.stair_session.specs.Courses.{Fenced, LeavesOut, NoneWas, Point, point}
-use Rattle.stair_session.specs.Rebuilding.{Rebuild}
-use Rattle.stair_session.specs.Session.{ArrayState, IsRebuiltIn}
+use Rattle.stair_invariant.specs.Chunks.{AreOfChunk}
+use Rattle.stair_invariant.specs.Effects.{Fenced, FencesGone, NoneWas, Snapshot, snapshot}
+use Rattle.stair_invariant.specs.Rebuilding.{Rebuild}
+use Rattle.stair_invariant.specs.Session.{ArrayState, IsRebuiltIn}
 use Rattle.stair_array.specs.Arrays.{IsUnderWay}
 use Rattle.stair_array.specs.Calls.{LoadsStripe, refused}
 use Rattle.stair_array.specs.Causes.{IsLowestRebuilt, IsNextChunk}
 use Rattle.stair_array.specs.Faults.{array_fault, refusal_for}
 use Rattle.stair_array.specs.Machine.{Dropped, Refusal, Progress as Came}
 use Rattle.stair_array.specs.MendingCalls.{chunk_as, promotion_as, rebuild_past, reply_for}
-use Rattle.stair_array.specs.Mends.{Drops, Promotes, SyncsSlot, WritesChunk, promoted_as}
+use Rattle.stair_array.specs.Mends.{FencesSlot, Promotes, SyncsSlot, WritesChunk, promoted_as}
 use Rattle.stair_array.specs.MendingSteps.{WritesNext}
 use Rattle.stair_array.specs.Promise.{KeepsProgress, rebuild_after, rebuild_of, running}
 use Rattle.stair_array.specs.declared.fault.ArrayFault.{ArrayFault}
@@ -97,7 +97,7 @@ module _ (m last : Membership) (same : last.array.geometry ≡ m.array.geometry)
 -- SLOTS THAT ARE LEFT OUT
 
 -- where these slots were left out and an epoch stands, none of them takes part
-module _ (leaving : Slots) (m last : Membership) (answer : Result Slots FenceFault) (old new : Telling) (stands : None ≡ refusal_of answer)
+module _ (leaving : Slots) (m last : Membership) (answer : Result Slots FenceFault) (old new : RackState) (stands : None ≡ refusal_of answer)
     (e : Fences leaving m last answer old new) (j : ℕ) (has : HasSlot leaving j) where
   fence_left : ¬ IsHere last j
   fence_left here =
@@ -113,11 +113,11 @@ module _ (leaving : Slots) (m last : Membership) (answer : Result Slots FenceFau
         | inr rebuilt ↦ let never : why.Gone ≡ why.Rebuilding = sym gone ∙ rebuilt in absurd (cc)
       ]
 
-left_out : (gone : Slots) (x y : Point) (j : ℕ) → LeavesOut gone None x y → HasSlot gone j → ¬ IsHere y.member j
+left_out : (gone : Slots) (x y : Snapshot) (j : ℕ) → FencesGone gone None x y → HasSlot gone j → ¬ IsHere y.member j
 left_out gone x y j (NoneWas none same fine) has = absurd (none j has)
 left_out gone x y j (Fenced i some answer fine e) has = fence_left gone x.member y.member answer x.told y.told fine e j has
 
-pub dropped_away : (j : ℕ) (x y : Point) → Drops j None x y → ¬ IsHere y.member j
+pub dropped_away : (j : ℕ) (x y : Snapshot) → FencesSlot j None x y → ¬ IsHere y.member j
 dropped_away j x y d = left_out d.gone x y j d.leaves ((d.alone j).1 refl)
 
 refused_alike : (f : FenceFault) → refusal_for (array_fault f) ≡ refused f
@@ -157,7 +157,7 @@ handed_promotion j (Err e) why same = ap (λ (a : AdmitFault). promotion_as j (E
 module _ (m : Membership) (j : ℕ) (honest : Bool) (old new : List Happening) (bads bads' : ℕ) (gones gones' : ℕ → ℕ) (answer : Reply)
     (told : IsTrue honest → Calls old new j (Sync answer)) (counts : NoneFalls bads bads' gones gones')
     (rose : answer ≡ reply.Gone → Rose (gones j) (gones' j)) where
-  synced : (found : Reply) → answer ≡ found → SyncsSlot j found (point m (telling honest old bads gones)) (point m (telling honest new bads' gones'))
+  synced : (found : Reply) → answer ≡ found → SyncsSlot j found (snapshot m (rack_state honest old bads gones)) (snapshot m (rack_state honest new bads' gones'))
   synced found same = record {
     member = refl;
     later = later_called honest old new bads bads' gones gones' j (Sync answer) told counts;
@@ -165,26 +165,26 @@ module _ (m : Membership) (j : ℕ) (honest : Bool) (old new : List Happening) (
     rose = λ gone. rose (same ∙ gone);
   }
 
-  pub promotes_none : answer ≡ reply.Gone → (y : Point) → Drops j None (point m (telling honest new bads' gones')) y
-      → Promotes j (Ok (Dropped j)) (point m (telling honest old bads gones)) y
+  pub promotes_none : answer ≡ reply.Gone → (y : Snapshot) → FencesSlot j None (snapshot m (rack_state honest new bads' gones')) y
+      → Promotes j (Ok (Dropped j)) (snapshot m (rack_state honest old bads gones)) y
   promotes_none gone y drops =
-      Promotes.Unsynced None (point m (telling honest old bads gones)) (point m (telling honest new bads' gones')) y (synced reply.Gone gone) drops
+      Promotes.Unsynced None (snapshot m (rack_state honest old bads gones)) (snapshot m (rack_state honest new bads' gones')) y (synced reply.Gone gone) drops
 
   pub promotes_stops : answer ≡ reply.Gone → (result : Result (Unit {0}) AdmitFault) (fault : FenceFault) → IsErrAnd result (λ e. e ≡ of_fence fault)
-      → (y : Point) → Drops j (Some fault) (point m (telling honest new bads' gones')) y
-      → Promotes j (promotion_as j result) (point m (telling honest old bads gones)) y
+      → (y : Snapshot) → FencesSlot j (Some fault) (snapshot m (rack_state honest new bads' gones')) y
+      → Promotes j (promotion_as j result) (snapshot m (rack_state honest old bads gones)) y
   promotes_stops gone result fault is y drops =
-      subst (λ (a : Result Came Refusal). Promotes j a (point m (telling honest old bads gones)) y) (sym (promoted_answer j result fault is))
-      (Promotes.Unsynced (Some fault) (point m (telling honest old bads gones)) (point m (telling honest new bads' gones')) y (synced reply.Gone gone)
+      subst (λ (a : Result Came Refusal). Promotes j a (snapshot m (rack_state honest old bads gones)) y) (sym (promoted_answer j result fault is))
+      (Promotes.Unsynced (Some fault) (snapshot m (rack_state honest old bads gones)) (snapshot m (rack_state honest new bads' gones')) y (synced reply.Gone gone)
       drops)
 
-  pub promotes : answer ≡ reply.Done → (joined : Result Slots AdmitFault) (last end : Membership) (later : Telling) → end ≡ last
-      → Joins (Promote j) j m last joined (telling honest new bads' gones') later
-      → Promotes j (promoted_as j joined) (point m (telling honest old bads gones)) (point end later)
+  pub promotes : answer ≡ reply.Done → (joined : Result Slots AdmitFault) (last end : Membership) (later : RackState) → end ≡ last
+      → Joins (Promote j) j m last joined (rack_state honest new bads' gones') later
+      → Promotes j (promoted_as j joined) (snapshot m (rack_state honest old bads gones)) (snapshot end later)
   promotes done joined last end later same joins =
-      Promotes.Joined joined (point m (telling honest old bads gones)) (point m (telling honest new bads' gones')) (point end later)
+      Promotes.Joined joined (snapshot m (rack_state honest old bads gones)) (snapshot m (rack_state honest new bads' gones')) (snapshot end later)
       (synced reply.Done done)
-      (subst (λ (l : Membership). Joins (Promote j) j m l joined (telling honest new bads' gones') later) (sym same) joins)
+      (subst (λ (l : Membership). Joins (Promote j) j m l joined (rack_state honest new bads' gones') later) (sym same) joins)
 
 -- ONE CHUNK
 
@@ -199,14 +199,14 @@ reply_gone why.OtherJoined other = refl
 reply_gone why.Rebuilding other = absurd (other refl)
 
 -- the stripe wasn't loaded, which is handed on
-pub next_unread : (j t : ℕ) (into : Stripe) (x y : Point) (result : Result (Unit {0}) ArrayFault) (fault : ArrayFault) → IsErrAnd result (λ e. e ≡ fault)
+pub next_unread : (j t : ℕ) (into : Stripe) (x y : Snapshot) (result : Result (Unit {0}) ArrayFault) (fault : ArrayFault) → IsErrAnd result (λ e. e ≡ fault)
     → LoadsStripe t into (Err (refusal_for fault)) x y → WritesNext j t (chunk_as j y.member result) x y
 next_unread j t into x y (Ok done) fault is loads = absurd is
 next_unread j t into x y (Err e) fault same loads =
     rw same (WritesNext.Unread into (refusal_for fault) x y loads)
 
 -- the slot fell as others were left out
-pub next_away : (j t : ℕ) (into : Stripe) (x y : Point) → LoadsStripe t into (Ok tt) x y → why_of y.member j ≢ why.Rebuilding
+pub next_away : (j t : ℕ) (into : Stripe) (x y : Snapshot) → LoadsStripe t into (Ok tt) x y → why_of y.member j ≢ why.Rebuilding
     → WritesNext j t (Ok (reply_for (why_of y.member j))) x y
 next_away j t into x y loads other =
     subst (λ (r : Reply). WritesNext j t (Ok r) x y) (sym (reply_gone (why_of y.member j) other))
@@ -232,7 +232,7 @@ module _ (m : Membership) (g : Geometry) (same : g ≡ m.array.geometry) (j t : 
     (told_gone : IsTrue honest → (i : ℕ) (call : SlotCall) → WasAnswered i call old new → AnswersGone call → IsGoneSlot j answer i)
     (rose : answer ≡ reply.Gone → Rose (gones j) (gones' j)) (counts : NoneFalls bads bads' gones gones') where
   wrote_chunk : (found : Reply) → answer ≡ found
-      → WritesChunk j t into found (point m (telling honest old bads gones)) (point m (telling honest new bads' gones'))
+      → WritesChunk j t into found (snapshot m (rack_state honest old bads gones)) (snapshot m (rack_state honest new bads' gones'))
   wrote_chunk found is = record {
     member = refl;
     later = record { counts = counts; honest = refl; ran = λ yes. ran_any (told yes).ran };
@@ -251,29 +251,29 @@ module _ (m : Membership) (g : Geometry) (same : g ≡ m.array.geometry) (j t : 
       redo = record { stripe = t; cells = cells }
 
   -- after the stripe was loaded
-  module _ (x : Point) (loads : LoadsStripe t into (Ok tt) x (point m (telling honest old bads gones))) (rebuilt : IsRebuiltIn m j) where
-    pub next_written : answer ≡ reply.Done → WritesNext j t (Ok (reply_for (why_of m j))) x (point m (telling honest new bads' gones'))
+  module _ (x : Snapshot) (loads : LoadsStripe t into (Ok tt) x (snapshot m (rack_state honest old bads gones))) (rebuilt : IsRebuiltIn m j) where
+    pub next_written : answer ≡ reply.Done → WritesNext j t (Ok (reply_for (why_of m j))) x (snapshot m (rack_state honest new bads' gones'))
     next_written done =
-        subst (λ (r : Reply). WritesNext j t (Ok r) x (point m (telling honest new bads' gones'))) (sym (ap reply_for rebuilt.why))
-        (WritesNext.Wrote into x (point m (telling honest old bads gones)) (point m (telling honest new bads' gones')) loads rebuilt
+        subst (λ (r : Reply). WritesNext j t (Ok r) x (snapshot m (rack_state honest new bads' gones'))) (sym (ap reply_for rebuilt.why))
+        (WritesNext.Wrote into x (snapshot m (rack_state honest old bads gones)) (snapshot m (rack_state honest new bads' gones')) loads rebuilt
         (wrote_chunk reply.Done done))
 
-    module _ (gone : answer ≡ reply.Gone) (y : Point) where
-      pub next_fell : Drops j None (point m (telling honest new bads' gones')) y → y.member.array.geometry ≡ m.array.geometry
+    module _ (gone : answer ≡ reply.Gone) (y : Snapshot) where
+      pub next_fell : FencesSlot j None (snapshot m (rack_state honest new bads' gones')) y → y.member.array.geometry ≡ m.array.geometry
           → WritesNext j t (Ok (reply_for (why_of y.member j))) x y
       next_fell drops geometry =
           subst (λ (r : Reply). WritesNext j t (Ok r) x y)
           (sym (reply_gone (why_of y.member j)
-          (λ goes. dropped_away j (point m (telling honest new bads' gones')) y drops
+          (λ goes. dropped_away j (snapshot m (rack_state honest new bads' gones')) y drops
           (record { below = subst (λ (k : Geometry). j < k.n) (sym geometry) rebuilt.below; why = inr goes }))))
-          (WritesNext.Fell into None x (point m (telling honest old bads gones)) (point m (telling honest new bads' gones')) y loads rebuilt
+          (WritesNext.Fell into None x (snapshot m (rack_state honest old bads gones)) (snapshot m (rack_state honest new bads' gones')) y loads rebuilt
           (wrote_chunk reply.Gone gone) drops)
 
       pub next_stops : (result : Result (Unit {0}) ArrayFault) (fault : FenceFault) → IsErrAnd result (λ e. e ≡ array_fault fault)
-          → Drops j (Some fault) (point m (telling honest new bads' gones')) y → WritesNext j t (chunk_as j y.member result) x y
+          → FencesSlot j (Some fault) (snapshot m (rack_state honest new bads' gones')) y → WritesNext j t (chunk_as j y.member result) x y
       next_stops result fault is drops =
           subst (λ (a : Result Reply Refusal). WritesNext j t a x y) (sym (written_answer j y.member result fault is))
-          (WritesNext.Fell into (Some fault) x (point m (telling honest old bads gones)) (point m (telling honest new bads' gones')) y loads rebuilt
+          (WritesNext.Fell into (Some fault) x (snapshot m (rack_state honest old bads gones)) (snapshot m (rack_state honest new bads' gones')) y loads rebuilt
           (wrote_chunk reply.Gone gone) drops)
 
 -- THE NEXT CHUNK

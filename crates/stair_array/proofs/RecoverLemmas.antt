@@ -9,7 +9,7 @@ use Rattle.stair_rack.specs.Crash.{CrashMayLeave, EachImage}
 use Rattle.stair_rack.specs.History.{Happening, Made}
 use Rattle.stair_rack.specs.Media.{Image}
 use Rattle.stair_rack.specs.Moments.{IsMoment}
-use Rattle.stair_rack.specs.Telling.{Telling}
+use Rattle.stair_rack.specs.RackState.{RackState}
 use Rattle.stair_rack.proofs.MomentLemmas.{moment_between, moment_last, ran_any, ran_before}
 use Rattle.stair_rack.specs.declared.watcher.Event.{Event}
 use Rattle.stair_member.specs.Asked.{LeavesSectors}
@@ -21,32 +21,32 @@ use Rattle.stair_member.specs.declared.why.Why.{Why}
 use Rattle.stair_member.proofs.AskedLemmas.{asked_ran}
 use Rattle.stair_state.specs.Blocks.{Codewords}
 use Rattle.stair_state.specs.State.{Content, State, without_seats}
-use Rattle.stair_session.specs.Courses.{Point, point}
-use Rattle.stair_session.specs.Opening.{IsDecidedAs, opened_with}
-use Rattle.stair_session.specs.Returning.{IsCalm, IsCalmUnread, Knows, Returning, StandsFor, StandsForAlone}
-use Rattle.stair_session.specs.SeatSteps.{EachMayDrop}
-use Rattle.stair_session.specs.Session.{ArrayState, IsOpenWith, seats_in}
+use Rattle.stair_invariant.specs.Effects.{Snapshot, snapshot}
+use Rattle.stair_invariant.specs.Opening.{IsDecidedAs, opened_with}
+use Rattle.stair_invariant.specs.Returning.{StaysWithinTolerance, StaysWithinToleranceUnread, Knows, Returning, StandsFor, StandsForAlone}
+use Rattle.stair_invariant.specs.SeatSteps.{EachMayDrop}
+use Rattle.stair_invariant.specs.Session.{ArrayState, IsOpenWith, seats_in}
 use Rattle.stair_array.specs.Calls.{refused}
 use Rattle.stair_array.specs.Draws.{HasDraws}
 use Rattle.stair_array.specs.Machine.{IsDecided, Recover, Refusal}
 use Rattle.stair_array.specs.Openings.{Recovers}
-use Rattle.stair_array.specs.Promise.{AreFound, Begun, Closed, EndsIn, Found, IsInState, IsLed, IsLeftBy, Keeps, KeepsRebuild, LeadsStep, Opened, Performs, Seen, ServesState, Session, StartsFrom, is_open}
+use Rattle.stair_array.specs.Promise.{AreFound, Begun, Closed, EndsIn, Found, IsInState, IsLed, IsLeftBy, Keeps, KeepsRebuild, LeadsStep, Opened, Performs, Seen, ServesState, Phase, StartsFrom, is_open}
 use Rattle.stair_array.proofs.DrawsLemmas.{done_with_room}
 
 -- WHAT A RECOVERY COMES TO
 
 -- a survey found the array, on a rack that stood for the state when it began
-pub record IsSurveyedFor (returning : Returning) (s : State) (first : Telling) (u : Point) : Type 0 where
+pub record IsSurveyedFor (returning : Returning) (s : State) (first : RackState) (u : Snapshot) : Type 0 where
   pub stands : StandsFor returning s first.history
   pub surveys : Surveys (Ok u.member) first u.told
   pub rules : IsMembership u.member
 
 -- the state of an array that was opened with this content
-abbrev pub opened_state : State → Point → Content → State
+abbrev pub opened_state : State → Snapshot → Content → State
 opened_state s y content = record { geometry = s.geometry; content = content; in_doubt = None; seats = Some (seats_in y.member.array) }
 
 -- The array was opened by this member: it holds what the state held before or after the change in doubt.
-pub record IsOpenedFor (returning : Returning) (s : State) (m : Membership) (before : List Happening) (y : Point) : Type 0 where
+pub record IsOpenedFor (returning : Returning) (s : State) (m : Membership) (before : List Happening) (y : Snapshot) : Type 0 where
   pub words : Codewords
   pub content : Content
   pub decided : IsDecidedAs s y.member words content
@@ -57,29 +57,29 @@ pub record IsOpenedFor (returning : Returning) (s : State) (m : Membership) (bef
   pub seats : EachMayDrop (seats_in m.array) (seats_in y.member.array)
 
 -- it was opened, or an epoch was refused, not for want of slots
-pub data ComesTo (returning : Returning) (s : State) (m : Membership) (before : List Happening) : Result Geometry Refusal → Point → Type 0 where
-  Opens : (g : Geometry) (y : Point) → g ≡ s.geometry → IsOpenedFor returning s m before y → ComesTo returning s m before (Ok g) y
-  Refuses : (fault : FenceFault) (y : Point) → StandsFor returning (without_seats s) y.told.history
-      → (IsCalmUnread returning s.geometry false before y.told.history → (whys : List Why) → ¬ (fault ≡ TooFew whys)) → ComesTo returning s m before (Err (refused fault)) y
+pub data ComesTo (returning : Returning) (s : State) (m : Membership) (before : List Happening) : Result Geometry Refusal → Snapshot → Type 0 where
+  Opens : (g : Geometry) (y : Snapshot) → g ≡ s.geometry → IsOpenedFor returning s m before y → ComesTo returning s m before (Ok g) y
+  Refuses : (fault : FenceFault) (y : Snapshot) → StandsFor returning (without_seats s) y.told.history
+      → (StaysWithinToleranceUnread returning s.geometry false before y.told.history → (whys : List Why) → ¬ (fault ≡ TooFew whys)) → ComesTo returning s m before (Err (refused fault)) y
 
 -- By these laws an opening is led on, on an honest rack, within tolerance from the survey's beginning on.
 pub record LeadsOpenings (returning : Returning) : Type 0 where
   -- the seats of the survey's member are those of a superblock that speaks for the array
-  pub seats : (s : State) (first : Telling) (u : Point) → IsSurveyedFor returning s first u → IsTrue u.told.honest → (h : List Happening)
-      → IsMoment first.history u.told.history h → IsCalm returning s.geometry false first.history h
+  pub seats : (s : State) (first : RackState) (u : Snapshot) → IsSurveyedFor returning s first u → IsTrue u.told.honest → (h : List Happening)
+      → IsMoment first.history u.told.history h → StaysWithinTolerance returning s.geometry false first.history h
       → AreFound returning first.history h s (seats_in u.member.array)
-  pub comes : (s : State) (first : Telling) (u v : Point) (answer : Result Geometry Refusal) → IsSurveyedFor returning s first u → Recovers answer u v
-      → IsTrue u.told.honest → IsTrue v.told.honest → IsCalm returning s.geometry false first.history v.told.history → ComesTo returning s u.member first.history answer v
+  pub comes : (s : State) (first : RackState) (u v : Snapshot) (answer : Result Geometry Refusal) → IsSurveyedFor returning s first u → Recovers answer u v
+      → IsTrue u.told.honest → IsTrue v.told.honest → StaysWithinTolerance returning s.geometry false first.history v.told.history → ComesTo returning s u.member first.history answer v
   -- and what a crash leaves at a moment of it represents the state as it was
-  pub moments : (s : State) (first : Telling) (u v : Point) (answer : Result Geometry Refusal) → IsSurveyedFor returning s first u → Recovers answer u v
-      → IsTrue u.told.honest → IsTrue v.told.honest → (c : List Happening) → IsMoment u.told.history c v.told.history → IsCalm returning s.geometry false first.history c
+  pub moments : (s : State) (first : RackState) (u v : Snapshot) (answer : Result Geometry Refusal) → IsSurveyedFor returning s first u → Recovers answer u v
+      → IsTrue u.told.honest → IsTrue v.told.honest → (c : List Happening) → IsMoment u.told.history c v.told.history → StaysWithinTolerance returning s.geometry false first.history c
       → (image : Image) → CrashMayLeave c image → StandsForAlone returning (without_seats s) image
 
 -- WHERE IT LEADS
 
 module _ (returning : Returning) (s : State) (before : List Happening) (m : Membership) where
   -- by what it comes to
-  led : (answer : Result Geometry Refusal) (v : Point) → ComesTo returning s m before answer v → (session : Session)
+  led : (answer : Result Geometry Refusal) (v : Snapshot) → ComesTo returning s m before answer v → (session : Phase)
       → ((refusal : Refusal) → answer ≡ Err refusal → session ≡ Closed) → ((g : Geometry) → answer ≡ Ok g → session ≡ Opened (opened_with v.member))
       → AreFound returning before v.told.history s (seats_in m.array) → IsLed returning m before s Recover answer (record { told = v.told; session = session })
   led _ _ (Refuses fault v stands enough) session closed opened found = record {
@@ -99,7 +99,7 @@ module _ (returning : Returning) (s : State) (before : List Happening) (m : Memb
     };
     is_in = record {
       stands = stands;
-      serves = subst (λ (e : Session). ServesState returning before (without_seats s) e v.told) (sym (closed (refused fault) refl)) tt;
+      serves = subst (λ (e : Phase). ServesState returning before (without_seats s) e v.told) (sym (closed (refused fault) refl)) tt;
     };
   }
   led _ _ (Opens g v same is) session closed opened found = record {
@@ -120,7 +120,7 @@ module _ (returning : Returning) (s : State) (before : List Happening) (m : Memb
     is_in = record {
       stands = is.stands;
       serves =
-          subst (λ (e : Session). ServesState returning before (opened_state s v is.content) e v.told) (sym (opened g refl))
+          subst (λ (e : Phase). ServesState returning before (opened_state s v is.content) e v.told) (sym (opened g refl))
           (inl (record {
             words = is.words;
             encodings = is.decided.encodings;
@@ -152,15 +152,15 @@ module _ (returning : Returning) (laws : LeadsOpenings returning) (answer : Resu
   honest_x : IsTrue x.told.honest
   honest_x = subst IsTrue (sym p.later.honest) honest
 
-  abbrev u : Point
-  u = point p.was.member x.told
+  abbrev u : Snapshot
+  u = snapshot p.was.member x.told
 
-  abbrev v : Point
-  v = point p.is.member y.told
+  abbrev v : Snapshot
+  v = snapshot p.is.member y.told
 
   -- where it began, and that it isn't open yet
   record IsFoundSo : Type 0 where
-    pub first : Telling
+    pub first : RackState
     pub began : first.history ≡ before
     pub surveyed : IsSurveyedFor returning s first u
     pub unseated : s.seats ≡ None
@@ -169,7 +169,7 @@ module _ (returning : Returning) (laws : LeadsOpenings returning) (answer : Resu
   found_so : IsFoundSo
   found_so = by x.session refl p.starts state.serves
     where
-      by : (session : Session) → session ≡ x.session → StartsFrom Recover p.was session → ServesState returning before s session x.told → IsFoundSo
+      by : (session : Phase) → session ≡ x.session → StartsFrom Recover p.was session → ServesState returning before s session x.told → IsFoundSo
       by Begun is starts serves = absurd starts
       by (Opened a) is starts serves = absurd starts
       by Closed is starts serves = absurd starts
@@ -189,17 +189,17 @@ module _ (returning : Returning) (laws : LeadsOpenings returning) (answer : Resu
   ran = p.later.ran honest
 
   -- the survey's beginning is the session's
-  calm_found : (h : List Happening) → IsCalm returning s.geometry (is_open x.session) before h
-      → IsCalm returning s.geometry false found_so.first.history h
+  calm_found : (h : List Happening) → StaysWithinTolerance returning s.geometry (is_open x.session) before h
+      → StaysWithinTolerance returning s.geometry false found_so.first.history h
   calm_found h calm =
-      subst (λ (b : List Happening). IsCalm returning s.geometry false b h) (sym found_so.began)
-      (subst (λ (opened : Bool). IsCalm returning s.geometry opened before h) found_so.unopened calm)
+      subst (λ (b : List Happening). StaysWithinTolerance returning s.geometry false b h) (sym found_so.began)
+      (subst (λ (opened : Bool). StaysWithinTolerance returning s.geometry opened before h) found_so.unopened calm)
 
-  unread_found : IsCalmUnread returning s.geometry (is_open x.session) before y.told.history
-      → IsCalmUnread returning s.geometry false before y.told.history
-  unread_found unread = subst (λ (opened : Bool). IsCalmUnread returning s.geometry opened before y.told.history) found_so.unopened unread
+  unread_found : StaysWithinToleranceUnread returning s.geometry (is_open x.session) before y.told.history
+      → StaysWithinToleranceUnread returning s.geometry false before y.told.history
+  unread_found unread = subst (λ (opened : Bool). StaysWithinToleranceUnread returning s.geometry opened before y.told.history) found_so.unopened unread
 
-  are_found : (c : List Happening) → IsMoment x.told.history c y.told.history → IsCalm returning s.geometry (is_open x.session) before c
+  are_found : (c : List Happening) → IsMoment x.told.history c y.told.history → StaysWithinTolerance returning s.geometry (is_open x.session) before c
       → AreFound returning before c s (seats_in p.was.member.array)
   are_found c at calm =
       subst (λ (b : List Happening). AreFound returning b c s (seats_in p.was.member.array)) found_so.began
@@ -208,12 +208,12 @@ module _ (returning : Returning) (laws : LeadsOpenings returning) (answer : Resu
       (ran_any {allowed = LeavesSectors} (asked_ran 32 found_so.first.history x.told.history (found_so.surveyed.surveys.asked honest_x)))
       (ran_before {allowed = any_call} ran at)) (calm_found c calm))
 
-  comes_to : IsCalm returning s.geometry (is_open x.session) before y.told.history → ComesTo returning s p.was.member before answer v
+  comes_to : StaysWithinTolerance returning s.geometry (is_open x.session) before y.told.history → ComesTo returning s p.was.member before answer v
   comes_to calm =
       subst (λ (b : List Happening). ComesTo returning s p.was.member b answer v) found_so.began
       (laws.comes s found_so.first u v answer found_so.surveyed p.does honest_x honest (calm_found y.told.history calm))
 
-  pub leads : IsCalm returning s.geometry (is_open x.session) before y.told.history → IsLed returning p.was.member before s Recover answer y
+  pub leads : StaysWithinTolerance returning s.geometry (is_open x.session) before y.told.history → IsLed returning p.was.member before s Recover answer y
   leads calm = led returning s before p.was.member answer v (comes_to calm) y.session closed opened (are_found y.told.history (moment_last ran.more ran.is) calm)
     where
       closed : (refusal : Refusal) → answer ≡ Err refusal → y.session ≡ Closed
@@ -236,26 +236,26 @@ module _ (returning : Returning) (laws : LeadsOpenings returning) (answer : Resu
               session ∙ (λ i. Opened (record { member = p.is.member; rebuild = rebuild i; stopped = kept i; remembered = p.remembers i }))
 
   -- nothing is refused but an epoch of which no number is left to draw
-  pub only_spent : IsCalm returning s.geometry (is_open x.session) before y.told.history
-      → IsCalmUnread returning s.geometry (is_open x.session) before y.told.history → (refusal : Refusal) → answer ≡ Err refusal
+  pub only_spent : StaysWithinTolerance returning s.geometry (is_open x.session) before y.told.history
+      → StaysWithinToleranceUnread returning s.geometry (is_open x.session) before y.told.history → (refusal : Refusal) → answer ≡ Err refusal
       → refusal ≡ refused EpochsSpent
   only_spent calm unread refusal is = by answer v refl is (unread_found unread) (comes_to calm)
     where
-      by : (given : Result Geometry Refusal) (w : Point) → given ≡ answer → given ≡ Err refusal
-          → IsCalmUnread returning s.geometry false before w.told.history → ComesTo returning s p.was.member before given w
+      by : (given : Result Geometry Refusal) (w : Snapshot) → given ≡ answer → given ≡ Err refusal
+          → StaysWithinToleranceUnread returning s.geometry false before w.told.history → ComesTo returning s p.was.member before given w
           → refusal ≡ refused EpochsSpent
       by _ _ same err upto (Opens g w of is) = absurd (cc)
       by _ _ same err upto (Refuses (TooFew whys) w stands enough) = absurd (enough upto whys refl)
       by _ _ same err upto (Refuses EpochsSpent w stands enough) = sym (let at : refused EpochsSpent ≡ refusal = cc in at)
 
   -- so it is done
-  pub complete : IsCalm returning s.geometry (is_open x.session) before y.told.history
-      → IsCalmUnread returning s.geometry (is_open x.session) before y.told.history → HasDraws p.was.member → IsOk answer
+  pub complete : StaysWithinTolerance returning s.geometry (is_open x.session) before y.told.history
+      → StaysWithinToleranceUnread returning s.geometry (is_open x.session) before y.told.history → HasDraws p.was.member → IsOk answer
   complete calm unread draws =
       done_with_room Recover (λ j same. cc) answer events x y p rules draws (λ cause. cause.1) (only_spent calm unread)
 
   -- at each moment of it a crash leaves the state as it was
-  pub stays : (c : List Happening) → IsMoment x.told.history c y.told.history → IsCalm returning s.geometry (is_open x.session) before c → (image : Image)
+  pub stays : (c : List Happening) → IsMoment x.told.history c y.told.history → StaysWithinTolerance returning s.geometry (is_open x.session) before c → (image : Image)
       → CrashMayLeave c image → StandsForAlone returning s image
   stays c at calm image left =
       subst (λ (t : State). StandsForAlone returning t image) (λ i. record {
@@ -265,7 +265,7 @@ module _ (returning : Returning) (laws : LeadsOpenings returning) (answer : Resu
         seats = sym found_so.unseated i;
       }) (laws.moments s found_so.first u v answer found_so.surveyed p.does honest_x honest c at (calm_found c calm) image left)
 
-  pub cuts : (c : List Happening) → IsMoment x.told.history c y.told.history → IsCalm returning s.geometry (is_open x.session) before c
+  pub cuts : (c : List Happening) → IsMoment x.told.history c y.told.history → StaysWithinTolerance returning s.geometry (is_open x.session) before c
       → EachImage (IsLeftBy returning Recover p.was.member before c s) c
   cuts c at calm image left = record {
     state = s;
@@ -274,8 +274,8 @@ module _ (returning : Returning) (laws : LeadsOpenings returning) (answer : Resu
   }
 
   -- in which the next session over it begins
-  pub again : (c : List Happening) (image : Image) (first : Telling) → IsMoment x.told.history c y.told.history
-      → IsCalm returning s.geometry (is_open x.session) before c → CrashMayLeave c image → first.history ≡ Made image ∷ []
+  pub again : (c : List Happening) (image : Image) (first : RackState) → IsMoment x.told.history c y.told.history
+      → StaysWithinTolerance returning s.geometry (is_open x.session) before c → CrashMayLeave c image → first.history ≡ Made image ∷ []
       → IsInState returning (Made image ∷ []) s (record { told = first; session = Begun })
   again c image first at calm left is = record {
     stands = subst (λ (h : List Happening). StandsFor returning s h) (sym is) (stays c at calm image left);

@@ -11,7 +11,7 @@ use Rattle.stair_rack.specs.Moments.{IsMoment}
 use Rattle.stair_rack.specs.Placed.{Writes}
 use Rattle.stair_rack.specs.Reading.{IsReadOf}
 use Rattle.stair_rack.specs.Stretch.{NothingReturned}
-use Rattle.stair_rack.specs.Telling.{Telling}
+use Rattle.stair_rack.specs.RackState.{RackState}
 use Rattle.stair_rack.proofs.KeepingLemmas.{phase_ran}
 use Rattle.stair_rack.proofs.MomentLemmas.{moment_between, moment_last, moment_sooner, ran_any, ran_join, ran_none}
 use Rattle.stair_rack.proofs.StretchLemmas.{each_after, each_before}
@@ -33,35 +33,35 @@ use Rattle.stair_state.specs.Represents.{Encodings, Represents}
 use Rattle.stair_state.specs.State.{Content, State, without_seats}
 use Rattle.stair_state.specs.Surveyed.{NamesContent}
 use Rattle.stair_state.specs.Tolerance.{IsTolerated, ToleratedSince}
-use Rattle.stair_session.specs.Courses.{DoesStage, FindsBody, FindsRedo, Point, Redoes, Replays, point}
-use Rattle.stair_session.specs.InSession.{IsInSession}
-use Rattle.stair_session.specs.Opening.{IsDecidedAs, IsFoundFor, IsOpening, IsRecovering, IsToldBy, StaysArray, opened_with}
-use Rattle.stair_session.specs.SeatSteps.{EachMayDrop}
-use Rattle.stair_session.specs.Session.{IsOpenWith, seats_in}
-use Rattle.stair_session.specs.UnderWay.{IsUnderWay}
-use Rattle.stair_session.proofs.DecidedLemmas.{decides, opens_as}
-use Rattle.stair_session.proofs.FindsLemmas.{body_cells, body_recovering, body_told, body_whole, finds, found_ran}
-use Rattle.stair_session.proofs.FirstEpochLemmas.{first_stood}
-use Rattle.stair_session.proofs.HonestLemmas.{body_honest, found_honest, redo_honest, left_honest, mid_honest, replay_honest, stage_honest}
-use Rattle.stair_session.proofs.OpenAmidLemmas.{opened_amid}
-use Rattle.stair_session.proofs.OpenCourseLemmas.{body_lasts, finding_lasts, gates_last, replay_lasts}
-use Rattle.stair_session.proofs.OpeningEndLemmas.{recovers}
-use Rattle.stair_session.proofs.RecoveryEndLemmas.{body_represents, closing_represents, finding_represents, first_represents, goes_on, replay_represents}
-use Rattle.stair_session.proofs.RedoingLemmas.{out_ran, way_opens}
-use Rattle.stair_session.proofs.ReplayLemmas.{closes, replays, rest_opens}
-use Rattle.stair_session.proofs.StageFoundLemmas.{first_among, last_among}
-use Rattle.stair_session.proofs.StaysArrayLemmas.{body_stays, fence_stays, found_stays, replay_stays, stage_stays, stays_again}
-use Rattle.stair_session.proofs.SurveyFoundLemmas.{found_for}
+use Rattle.stair_invariant.specs.Effects.{DoesStage, FindsBody, FindsRedo, Snapshot, Redoes, Replays, snapshot}
+use Rattle.stair_invariant.specs.InSession.{IsInSession}
+use Rattle.stair_invariant.specs.Opening.{IsDecidedAs, IsFoundFor, IsOpening, IsRecovering, IsToldBy, StaysArray, opened_with}
+use Rattle.stair_invariant.specs.SeatSteps.{EachMayDrop}
+use Rattle.stair_invariant.specs.Session.{IsOpenWith, seats_in}
+use Rattle.stair_invariant.specs.UnderWay.{IsUnderWay}
+use Rattle.stair_invariant.proofs.DecidedLemmas.{decides, opens_as}
+use Rattle.stair_invariant.proofs.FindsLemmas.{body_cells, body_recovering, body_told, body_whole, finds, found_ran}
+use Rattle.stair_invariant.proofs.FirstEpochLemmas.{first_stood}
+use Rattle.stair_invariant.proofs.HonestLemmas.{body_honest, found_honest, redo_honest, left_honest, mid_honest, replay_honest, stage_honest}
+use Rattle.stair_invariant.proofs.OpenAmidLemmas.{opened_amid}
+use Rattle.stair_invariant.proofs.OpenCourseLemmas.{body_lasts, finding_lasts, gates_last, replay_lasts}
+use Rattle.stair_invariant.proofs.OpeningEndLemmas.{recovers}
+use Rattle.stair_invariant.proofs.RecoveryEndLemmas.{body_represents, closing_represents, finding_represents, first_represents, goes_on, replay_represents}
+use Rattle.stair_invariant.proofs.RedoingLemmas.{out_ran, way_opens}
+use Rattle.stair_invariant.proofs.ReplayLemmas.{closes, replays, rest_opens}
+use Rattle.stair_invariant.proofs.StageFoundLemmas.{first_among, last_among}
+use Rattle.stair_invariant.proofs.StaysArrayLemmas.{body_stays, fence_stays, found_stays, replay_stays, stage_stays, stays_again}
+use Rattle.stair_invariant.proofs.SurveyFoundLemmas.{found_for}
 use Rattle.stair_array.specs.Calls.{answer_of, refused}
 use Rattle.stair_array.specs.Machine.{Refusal}
 use Rattle.stair_array.specs.Openings.{ClearsJournal, Recovers}
 
 -- HONEST RACKS, and what was called
 
-pub honest_then : (x y : Telling) → x.honest ≡ y.honest → IsTrue y.honest → IsTrue x.honest
+pub honest_then : (x y : RackState) → x.honest ≡ y.honest → IsTrue y.honest → IsTrue x.honest
 honest_then x y same honest = subst IsTrue (sym same) honest
 
-pub cleared_honest : (redo : Option Redo) (opened : Slots) (answer : Result Geometry Refusal) (x y : Point) → ClearsJournal redo opened answer x y
+pub cleared_honest : (redo : Option Redo) (opened : Slots) (answer : Result Geometry Refusal) (x y : Snapshot) → ClearsJournal redo opened answer x y
     → x.told.honest ≡ y.told.honest
 cleared_honest _ _ _ _ _ (ClearsJournal.Closes opened live refusal x y are does) = stage_honest (gate_writes closed_gate) live refusal x y does
 cleared_honest _ _ _ _ _ (ClearsJournal.Stops redo opened body was stripe fault x y found) = body_honest redo body was stripe (Some fault) x y found
@@ -69,20 +69,20 @@ cleared_honest _ _ _ _ _ (ClearsJournal.BodyLost redo opened body was stripe sec
 cleared_honest _ _ _ _ _ (ClearsJournal.Replayed redo opened body was stripe refusal x y z found whole run) =
     body_honest redo body was stripe None x y found ∙ replay_honest redo stripe opened refusal y z run
 
-pub body_ran : (redo : Redo) (body : Body) (was into : Stripe) (refusal : Option FenceFault) (x y : Point) → FindsBody redo body was into refusal x y
+pub body_ran : (redo : Redo) (body : Body) (was into : Stripe) (refusal : Option FenceFault) (x y : Snapshot) → FindsBody redo body was into refusal x y
     → IsTrue y.told.honest → Ran any_call x.told.history y.told.history
 body_ran redo body was into refusal x y found honest =
-    let now = honest_then found.mid y.told (left_honest body.gone refusal (point x.member found.mid) y found.leaves) honest in
+    let now = honest_then found.mid y.told (left_honest body.gone refusal (snapshot x.member found.mid) y found.leaves) honest in
     ran_join {allowed = any_call} (ran_any {allowed = IsReadOf (HasSlot found.live) (IsBodySector x.member.array.geometry redo)} (found.reads.ran now))
-    (out_ran body.gone refusal (point x.member found.mid) y found.leaves honest)
+    (out_ran body.gone refusal (snapshot x.member found.mid) y found.leaves honest)
 
-pub does_ran : (what : Writes) (to : Slots) (refusal : Option FenceFault) (x y : Point) → DoesStage what to refusal x y → IsTrue y.told.honest
+pub does_ran : (what : Writes) (to : Slots) (refusal : Option FenceFault) (x y : Snapshot) → DoesStage what to refusal x y → IsTrue y.told.honest
     → Ran any_call x.told.history y.told.history
 does_ran what to refusal x y does honest =
     ran_join {allowed = any_call} (ran_any (phase_ran (does.phase.placed (mid_honest what to refusal x y does honest))))
-    (out_ran does.gone refusal (point x.member does.mid) y does.leaves honest)
+    (out_ran does.gone refusal (snapshot x.member does.mid) y does.leaves honest)
 
-pub redoes_ran : (g : Geometry) (redo : Redo) (stripe : Stripe) (stage : Stage) (refusal : Option FenceFault) (x z : Point)
+pub redoes_ran : (g : Geometry) (redo : Redo) (stripe : Stripe) (stage : Stage) (refusal : Option FenceFault) (x z : Snapshot)
     → Redoes g redo stripe stage refusal x z → IsTrue z.told.honest → Ran any_call x.told.history z.told.history
 redoes_ran g redo stripe _ _ _ _ (Redoes.Ends x) honest = ran_none {allowed = any_call} x.told.history
 redoes_ran g redo stripe _ _ _ _ (Redoes.Goes stage to refusal x y z not_done over does more) honest =
@@ -90,19 +90,19 @@ redoes_ran g redo stripe _ _ _ _ (Redoes.Goes stage to refusal x y z not_done ov
     ran_join {allowed = any_call} (does_ran _ to None x y does now) (redoes_ran g redo stripe (next stage) refusal y z more honest)
 redoes_ran g redo stripe _ _ _ _ (Redoes.Stops stage to fault x y not_done over does) honest = does_ran _ to (Some fault) x y does honest
 
-pub replayed_ran : (redo : Redo) (stripe : Stripe) (opened : Slots) (refusal : Option FenceFault) (x z : Point) → Replays redo stripe opened refusal x z
+pub replayed_ran : (redo : Redo) (stripe : Stripe) (opened : Slots) (refusal : Option FenceFault) (x z : Snapshot) → Replays redo stripe opened refusal x z
     → IsTrue z.told.honest → Ran any_call x.told.history z.told.history
 replayed_ran redo stripe opened _ _ _ (Replays.Goes to refusal x y z are does more) honest =
     let now = honest_then y.told z.told (redo_honest _ redo stripe Placing refusal y z more) honest in
     ran_join {allowed = any_call} (does_ran _ to None x y does now) (redoes_ran _ redo stripe Placing refusal y z more honest)
 replayed_ran redo stripe opened _ _ _ (Replays.Stops to fault x y are does) honest = does_ran _ to (Some fault) x y does honest
 
-pub fence_ran : (m last : Membership) (answer : Result Slots FenceFault) (x y : Telling) → Fences no_slots m last answer x y → IsTrue y.honest
+pub fence_ran : (m last : Membership) (answer : Result Slots FenceFault) (x y : RackState) → Fences no_slots m last answer x y → IsTrue y.honest
     → Ran any_call x.history y.history
 fence_ran m last answer x y e honest =
     let issued = e.establishes.issued honest in ran_any {allowed = IsIssuing issued.slots issued.editions} issued.ran
 
-pub cleared_ran : (redo : Option Redo) (opened : Slots) (answer : Result Geometry Refusal) (x y : Point) → ClearsJournal redo opened answer x y
+pub cleared_ran : (redo : Option Redo) (opened : Slots) (answer : Result Geometry Refusal) (x y : Snapshot) → ClearsJournal redo opened answer x y
     → IsTrue y.told.honest → Ran any_call x.told.history y.told.history
 cleared_ran _ _ _ _ _ (ClearsJournal.Closes opened live refusal x y are does) honest = does_ran (gate_writes closed_gate) live refusal x y does honest
 cleared_ran _ _ _ _ _ (ClearsJournal.Stops redo opened body was stripe fault x y found) honest = body_ran redo body was stripe (Some fault) x y found honest
@@ -116,7 +116,7 @@ cleared_ran _ _ _ _ _ (ClearsJournal.Replayed redo opened body was stripe refusa
 -- WHAT IT DECIDES
 
 -- The array was opened: it holds what the state held before or after the change in doubt.
-pub record IsOpened (s : State) (m : Membership) (before : List Happening) (y : Point) : Type 0 where
+pub record IsOpened (s : State) (m : Membership) (before : List Happening) (y : Snapshot) : Type 0 where
   pub words : Codewords
   pub content : Content
   pub decided : IsDecidedAs s y.member words content
@@ -126,9 +126,9 @@ pub record IsOpened (s : State) (m : Membership) (before : List Happening) (y : 
   pub geometry : s.geometry ≡ y.member.array.geometry
   pub seats : EachMayDrop (seats_in m.array) (seats_in y.member.array)
 
-pub data Outcome (s : State) (m : Membership) (before : List Happening) : Result Geometry Refusal → Point → Type 0 where
-  Opens : (g : Geometry) (y : Point) → g ≡ s.geometry → IsOpened s m before y → Outcome s m before (Ok g) y
-  Refuses : (fault : FenceFault) (y : Point) → Represents (without_seats s) y.told.history → Outcome s m before (Err (refused fault)) y
+pub data Outcome (s : State) (m : Membership) (before : List Happening) : Result Geometry Refusal → Snapshot → Type 0 where
+  Opens : (g : Geometry) (y : Snapshot) → g ≡ s.geometry → IsOpened s m before y → Outcome s m before (Ok g) y
+  Refuses : (fault : FenceFault) (y : Snapshot) → Represents (without_seats s) y.told.history → Outcome s m before (Err (refused fault)) y
 
 module _ (s : State) (before : List Happening) where
   -- within tolerance up to here, and nothing has come back
@@ -142,7 +142,7 @@ module _ (s : State) (before : List Happening) where
   calm_now h ran calm = calm.0 h (moment_last ran.more ran.is)
 
   -- what is so at a point of the opening, once its first epoch stands
-  pub record IsAt (m : Membership) (encodings : Encodings s) (a : Redoing) (stage : Stage) (start : List Happening) (u : Point) : Type 0 where
+  pub record IsAt (m : Membership) (encodings : Encodings s) (a : Redoing) (stage : Stage) (start : List Happening) (u : Snapshot) : Type 0 where
     pub recovering : IsRecovering a stage encodings.old encodings.new start u.member u.told.history
     pub opening : IsOpening before u
     pub stays : StaysArray m u.member
@@ -156,7 +156,7 @@ module _ (s : State) (before : List Happening) where
       label = elim content.label [ inl is ↦ inl (stays.label ∙ is) | inr is ↦ inr (stays.label ∙ is) ];
     }
 
-    pub is_at : (a : Redoing) (stage : Stage) (start : List Happening) (u : Point)
+    pub is_at : (a : Redoing) (stage : Stage) (start : List Happening) (u : Snapshot)
         → IsRecovering a stage encodings.old encodings.new start u.member u.told.history → IsOpening before u → StaysArray m u.member
         → IsAt m encodings a stage start u
     is_at a stage start u recovering opening stays = record {
@@ -168,7 +168,7 @@ module _ (s : State) (before : List Happening) where
     }
 
     -- the array was opened with these stripes
-    opened_so : (y : Point) (words : Codewords) → IsInSession y.member words y.told.history → IsOpening before y → StaysArray m y.member
+    opened_so : (y : Snapshot) (words : Codewords) → IsInSession y.member words y.told.history → IsOpening before y → StaysArray m y.member
         → ((words ≡ encodings.old) ⊎ (words ≡ encodings.new)) → Calm y.told.history → IsOpened s m before y
     opened_so y words session opening stays either calm =
         let ran : Ran any_call before y.told.history = opening.amid.ran in
@@ -190,12 +190,12 @@ module _ (s : State) (before : List Happening) where
 
     -- FINDING A REDO
 
-    pub record IsFoundAt (a : Redoing) (start : List Happening) (redo : Option Redo) (opened : Slots) (z : Point) : Type 0 where
+    pub record IsFoundAt (a : Redoing) (start : List Happening) (redo : Option Redo) (opened : Slots) (z : Snapshot) : Type 0 where
       pub stage : Stage
       pub at : IsAt m encodings a stage start z
       pub told : IsToldBy redo opened a stage start z.member z.told.history
 
-    pub finding_at : (a : Redoing) (stage : Stage) (start : List Happening) (redo : Option Redo) (opened : Slots) (w z : Point) → FindsRedo redo opened None w z
+    pub finding_at : (a : Redoing) (stage : Stage) (start : List Happening) (redo : Option Redo) (opened : Slots) (w z : Snapshot) → FindsRedo redo opened None w z
         → IsAt m encodings a stage start w → IsTrue z.told.honest → Calm z.told.history → IsFoundAt a start redo opened z
     finding_at a stage start redo opened w z found at honest calm =
         let ran : Ran any_call w.told.history z.told.history = found_ran redo opened None w z found honest in
@@ -218,7 +218,7 @@ module _ (s : State) (before : List Happening) where
     -- ITS BODY
 
     -- a redo that was found, and its body was read
-    pub record IsReadAt (a : Redoing) (start : List Happening) (redo : Redo) (opened : Slots) (stripe : Stripe) (y : Point) : Type 0 where
+    pub record IsReadAt (a : Redoing) (start : List Happening) (redo : Redo) (opened : Slots) (stripe : Stripe) (y : Snapshot) : Type 0 where
       pub stage : Stage
       pub at : IsAt m encodings a stage start y
       pub told : IsToldBy (Some redo) opened a stage start y.member y.told.history
@@ -227,7 +227,7 @@ module _ (s : State) (before : List Happening) where
       pub going : (stage ≡ Uncommitted) ⊎ (stage ≡ Placing)
       pub cells : (i c : ℕ) → HasCell a.redo.cells i c → cell stripe i c ≡ cell (a.new a.redo.stripe) i c
 
-    pub body_at : (a : Redoing) (start : List Happening) (redo : Redo) (opened : Slots) (body : Body) (was stripe : Stripe) (x y : Point)
+    pub body_at : (a : Redoing) (start : List Happening) (redo : Redo) (opened : Slots) (body : Body) (was stripe : Stripe) (x y : Snapshot)
         → FindsBody redo body was stripe None x y → body.unread ≡ None → IsFoundAt a start (Some redo) opened x → IsTrue y.told.honest
         → Calm y.told.history → IsReadAt a start redo opened stripe y
     body_at a start redo opened body was stripe x y found read is honest calm =
@@ -257,7 +257,7 @@ module _ (s : State) (before : List Happening) where
     -- CLEARING THE JOURNAL
 
     module _ (a : Redoing) (start : List Happening) where
-      clearing : (redo : Option Redo) (opened : Slots) (answer : Result Geometry Refusal) (z y : Point) → ClearsJournal redo opened answer z y
+      clearing : (redo : Option Redo) (opened : Slots) (answer : Result Geometry Refusal) (z y : Snapshot) → ClearsJournal redo opened answer z y
           → IsFoundAt a start redo opened z → IsTrue y.told.honest → Calm y.told.history → Outcome s m before answer y
       clearing _ _ _ _ _ (ClearsJournal.Closes opened live None x y are does) is honest calm =
           let rests : is.stage ≡ AtRest = is.told.none refl in
@@ -345,12 +345,12 @@ module _ (s : State) (before : List Happening) where
 -- AN OPENING, of an array that a survey found
 
 -- what a survey found at its end, in the session that it began
-pub record IsSurveyed (s : State) (before : List Happening) (u : Point) : Type 0 where
+pub record IsSurveyed (s : State) (before : List Happening) (u : Snapshot) : Type 0 where
   pub rules : IsMembership u.member
   pub ran : Ran any_call before u.told.history
   pub found : Calm s before u.told.history → IsFoundFor s u.member before before u.told.history
 
-pub surveyed : (s : State) (first : Telling) (u : Point) → Surveys (Ok u.member) first u.told → IsMembership u.member → Represents s first.history
+pub surveyed : (s : State) (first : RackState) (u : Snapshot) → Surveys (Ok u.member) first u.told → IsMembership u.member → Represents s first.history
     → IsTrue u.told.honest → IsSurveyed s first.history u
 surveyed s first u surveys rules stands honest = record {
   rules = rules;
@@ -361,12 +361,12 @@ surveyed s first u surveys rules stands honest = record {
 
 module _ (s : State) (before : List Happening) where
   -- once its first epoch stands
-  pub record IsRecoveredAt (m : Membership) (encodings : Encodings s) (w : Point) : Type 0 where
+  pub record IsRecoveredAt (m : Membership) (encodings : Encodings s) (w : Snapshot) : Type 0 where
     pub redoing : Redoing
     pub stage : Stage
     pub at : IsAt s before m encodings redoing stage w.told.history w
 
-  pub fence_at : (u w : Point) (fallen : Slots) → IsSurveyed s before u → (f : IsFoundFor s u.member before before u.told.history)
+  pub fence_at : (u w : Snapshot) (fallen : Slots) → IsSurveyed s before u → (f : IsFoundFor s u.member before before u.told.history)
       → Fences no_slots u.member w.member (Ok fallen) u.told w.told → IsTrue w.told.honest → Calm s before w.told.history
       → IsRecoveredAt u.member f.represents.encodings w
   fence_at u w fallen is f e honest calm =
@@ -392,7 +392,7 @@ module _ (s : State) (before : List Happening) where
       }
 
   -- What it comes to.
-  pub outcome : (answer : Result Geometry Refusal) (u v : Point) → Recovers answer u v → IsSurveyed s before u → IsTrue v.told.honest
+  pub outcome : (answer : Result Geometry Refusal) (u v : Snapshot) → Recovers answer u v → IsSurveyed s before u → IsTrue v.told.honest
       → Calm s before v.told.history → Outcome s u.member before answer v
   outcome _ _ _ (Recovers.NoEpoch fault x y e) is honest calm =
       let ran : Ran any_call x.told.history y.told.history = fence_ran x.member y.member (Err fault) x.told y.told e honest in

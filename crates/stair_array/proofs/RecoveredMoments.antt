@@ -22,13 +22,13 @@ use Rattle.stair_state.specs.State.{State, without_seats}
 use Rattle.stair_state.specs.Surveyed.{NamesContent}
 use Rattle.stair_state.specs.Tolerance.{IsToleratedAlone}
 use Rattle.stair_state.proofs.OutsideLemmas.{tolerated_alone}
-use Rattle.stair_session.specs.Courses.{FindsRedo, Point, Replays}
-use Rattle.stair_session.specs.Opening.{StandsWithin}
-use Rattle.stair_session.specs.Session.{seats_in}
-use Rattle.stair_session.proofs.FindsLemmas.{found_ran}
-use Rattle.stair_session.proofs.HonestLemmas.{found_honest, replay_honest}
-use Rattle.stair_session.proofs.RecoveryEndLemmas.{first_stands, goes_on, without}
-use Rattle.stair_session.proofs.StandsWithinLemmas.{body_stands, closing_stands, finding_stands, replay_stands}
+use Rattle.stair_invariant.specs.Effects.{FindsRedo, Snapshot, Replays}
+use Rattle.stair_invariant.specs.Opening.{StandsWithin}
+use Rattle.stair_invariant.specs.Session.{seats_in}
+use Rattle.stair_invariant.proofs.FindsLemmas.{found_ran}
+use Rattle.stair_invariant.proofs.HonestLemmas.{found_honest, replay_honest}
+use Rattle.stair_invariant.proofs.RecoveryEndLemmas.{first_stands, goes_on, without}
+use Rattle.stair_invariant.proofs.StandsWithinLemmas.{body_stands, closing_stands, finding_stands, replay_stands}
 use Rattle.stair_array.specs.Machine.{Refusal}
 use Rattle.stair_array.specs.Openings.{ClearsJournal, Recovers}
 use Rattle.stair_array.proofs.RecoveredLemmas.{Calm, IsFoundAt, IsReadAt, IsSurveyed, body_at, body_ran, calm_now, calm_then, cleared_honest, does_ran, fence_at, fence_ran, finding_at, honest_then, replayed_ran}
@@ -49,7 +49,7 @@ module _ (s : State) (before : List Happening) where
 
   -- THE FIRST FENCE
 
-  fence_moments : (u w : Point) (answer : Result Slots FenceFault) → IsSurveyed s before u → Fences no_slots u.member w.member answer u.told w.told
+  fence_moments : (u w : Snapshot) (answer : Result Slots FenceFault) → IsSurveyed s before u → Fences no_slots u.member w.member answer u.told w.told
       → IsTrue w.told.honest → AtEveryMoment StandsHere u.told.history w.told.history
   fence_moments u w answer is e honest =
       at_every_from {P = StandsHere} ran.more ran.is
@@ -67,7 +67,7 @@ module _ (s : State) (before : List Happening) where
 
   -- A LATER PART
 
-  part_moments : (u v : Point) → Ran any_call before u.told.history → Ran any_call u.told.history v.told.history
+  part_moments : (u v : Snapshot) → Ran any_call before u.told.history → Ran any_call u.told.history v.told.history
       → (Calm s before u.told.history
       → AtEveryMoment (StandsWithin s u.member.array u.told.history) u.told.history v.told.history)
       → AtEveryMoment StandsHere u.told.history v.told.history
@@ -84,7 +84,7 @@ module _ (s : State) (before : List Happening) where
       picture may tolerated).0) image left)
 
   -- what is known once a redo was found
-  record IsKnownAt (redo : Option Redo) (opened : Slots) (z : Point) : Type 0 where
+  record IsKnownAt (redo : Option Redo) (opened : Slots) (z : Snapshot) : Type 0 where
     pub member : Membership
     pub encodings : Encodings s
     pub same : s.geometry ≡ member.array.geometry
@@ -93,7 +93,7 @@ module _ (s : State) (before : List Happening) where
     pub start : List Happening
     pub is : IsFoundAt s before member encodings same content redoing start redo opened z
 
-  clearing_moments : (redo : Option Redo) (opened : Slots) (answer : Result Geometry Refusal) (z y : Point) → ClearsJournal redo opened answer z y
+  clearing_moments : (redo : Option Redo) (opened : Slots) (answer : Result Geometry Refusal) (z y : Snapshot) → ClearsJournal redo opened answer z y
       → Ran any_call before z.told.history → (Calm s before z.told.history → IsKnownAt redo opened z) → IsTrue y.told.honest
       → AtEveryMoment StandsHere z.told.history y.told.history
   clearing_moments _ _ _ _ _ (ClearsJournal.Closes opened live refusal x y are does) upto known honest =
@@ -133,7 +133,7 @@ module _ (s : State) (before : List Happening) where
 
   -- ALL OF IT
 
-  finding_moments_of : (u y z : Point) (fallen : Slots) (redo : Option Redo) (opened : Slots) (refusal : Option FenceFault) → IsSurveyed s before u
+  finding_moments_of : (u y z : Snapshot) (fallen : Slots) (redo : Option Redo) (opened : Slots) (refusal : Option FenceFault) → IsSurveyed s before u
       → Fences no_slots u.member y.member (Ok fallen) u.told y.told → FindsRedo redo opened refusal y z → IsTrue y.told.honest → IsTrue z.told.honest
       → AtEveryMoment StandsHere y.told.history z.told.history
   finding_moments_of u y z fallen redo opened refusal is e found honest_y honest =
@@ -145,7 +145,7 @@ module _ (s : State) (before : List Happening) where
       finding_stands s f.represents.encodings now.redoing now.stage y.told.history y now.at.recovering now.at.geometry now.at.names redo opened refusal z found
       honest)
 
-  pub recover_moments : (answer : Result Geometry Refusal) (u v : Point) → Recovers answer u v → IsSurveyed s before u → IsTrue v.told.honest
+  pub recover_moments : (answer : Result Geometry Refusal) (u v : Snapshot) → Recovers answer u v → IsSurveyed s before u → IsTrue v.told.honest
       → AtEveryMoment StandsHere u.told.history v.told.history
   recover_moments _ _ _ (Recovers.NoEpoch fault x y e) is honest = fence_moments x y (Err fault) is e honest
   recover_moments _ _ _ (Recovers.Stops fallen opened redo fault x y z e found) is honest =

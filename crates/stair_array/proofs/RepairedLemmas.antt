@@ -31,9 +31,9 @@ use Rattle.stair_journal.specs.declared.redo.Redo.{Redo}
 use Rattle.stair_stripes.specs.Gathering.{IsCellOf, IsReadOfCell}
 use Rattle.stair_stripes.specs.declared.gathering.Gathered.{Gathered}
 use Rattle.stair_state.specs.Redoing.{AtRest}
-use Rattle.stair_session.specs.Courses.{Fenced, LeavesOut, Loads, NoneWas, Point, Redoes, point}
-use Rattle.stair_session.specs.Session.{IsLiveIn}
-use Rattle.stair_session.proofs.LeftOutLemmas.{start_geometry}
+use Rattle.stair_invariant.specs.Effects.{Fenced, FencesGone, Loads, NoneWas, Snapshot, Redoes, snapshot}
+use Rattle.stair_invariant.specs.Session.{IsLiveIn}
+use Rattle.stair_invariant.proofs.LeftOutLemmas.{start_geometry}
 use Rattle.stair_array.specs.Calls.{answer_of}
 use Rattle.stair_array.specs.Machine.{Refusal}
 use Rattle.stair_array.specs.Mends.{AreOnLive, Scrubs}
@@ -66,7 +66,7 @@ never_shut before h j (IsOfflineUntilAttached.RackStopped is) unpulled going = g
 -- AN EPOCH THAT STANDS
 
 -- a slot is live in it, so that the rack goes on
-epoch_going : (leaving : Slots) (x y : Point) (answer : Result Slots FenceFault) → Fences leaving x.member y.member answer x.told y.told
+epoch_going : (leaving : Slots) (x y : Snapshot) (answer : Result Slots FenceFault) → Fences leaving x.member y.member answer x.told y.told
     → None ≡ refusal_of answer → IsTrue y.told.honest → ¬ IsTrue (stopped y.told.history)
 epoch_going leaving x y answer e fine honest =
     let array = fence_array leaving x.member y.member answer x.told y.told e (sym fine) in
@@ -86,14 +86,14 @@ cell_read_looks : (g : Geometry) (live : Slots) (t : ℕ) (wanted : ℕ → ℕ 
 cell_read_looks g live t wanted j c is = subst IsLooking (sym is.is) tt
 
 -- Its slot is in use and isn't pulled as the stripe is gathered and slots that were gone are left out.
-module _ (t : ℕ) (gathered : Gathered) (was read : Stripe) (x y : Point)
+module _ (t : ℕ) (gathered : Gathered) (was read : Stripe) (x y : Snapshot)
     (loads : Loads t (IsCellOf x.member.array.geometry) gathered was read None x y) (honest : IsTrue y.told.honest) (i j : ℕ)
     (live : IsLiveIn x.member j) (in_use : IsUsed x.told.history j) (unpulled : ¬ WasPulled x.told.history y.told.history j) where
   to_mid : IsAfter x.told loads.mid
   to_mid = gathers_after x.member.array.geometry loads.live t (IsCellOf x.member.array.geometry) gathered was read x.told loads.mid loads.gathers
 
   to_end : IsAfter loads.mid y.told
-  to_end = out_after gathered.gone None (point x.member loads.mid) y loads.leaves
+  to_end = out_after gathered.gone None (snapshot x.member loads.mid) y loads.leaves
 
   honest_mid : IsTrue loads.mid.honest
   honest_mid = honest_before loads.mid y.told to_end honest
@@ -105,12 +105,12 @@ module _ (t : ℕ) (gathered : Gathered) (was read : Stripe) (x y : Point)
   not_gone : ¬ HasSlot gathered.gone j
   not_gone has = by loads.leaves
     where
-      by : LeavesOut gathered.gone None (point x.member loads.mid) y → ⊥
+      by : FencesGone gathered.gone None (snapshot x.member loads.mid) y → ⊥
       by (NoneWas none same fine) = none j has
       by (Fenced l some answer fine e) =
           never_shut x.told.history loads.mid.history j ((loads.gathers.gone j has).shut honest_mid x.told.history in_use.held) unpulled_mid
           (λ stops.
-          epoch_going gathered.gone (point x.member loads.mid) y answer e fine honest
+          epoch_going gathered.gone (snapshot x.member loads.mid) y answer e fine honest
           (stopped_on {allowed = any_call} (to_end.later.ran honest) stops))
 
   size_mid : (slot_state loads.mid.history j).size ≡ (slot_state x.told.history j).size
@@ -125,8 +125,8 @@ module _ (t : ℕ) (gathered : Gathered) (was read : Stripe) (x y : Point)
   stays_live : IsTrue (has_sector (slot_state x.told.history j).size 1) → IsLiveIn y.member j
   stays_live full = by loads.leaves
     where
-      by : LeavesOut gathered.gone None (point x.member loads.mid) y → IsLiveIn y.member j
-      by (NoneWas none same fine) = subst (λ (p : Point). IsLiveIn p.member j) (sym same) live
+      by : FencesGone gathered.gone None (snapshot x.member loads.mid) y → IsLiveIn y.member j
+      by (NoneWas none same fine) = subst (λ (p : Snapshot). IsLiveIn p.member j) (sym same) live
       by (Fenced l some answer fine e) =
           let below = subst (λ (g : Geometry). j < g.n) (sym (start_geometry gathered.gone x.member e.start e.leaves)) live.below in
           record {
@@ -139,7 +139,7 @@ module _ (t : ℕ) (gathered : Gathered) (was read : Stripe) (x y : Point)
                       (e.establishes.were_gone.shut honest x.told.history j dropped
                       (held_on {allowed = any_call} j (to_mid.later.ran honest_mid) in_use.held)
                       (λ attached. subst (λ (size : Option ℕ). IsTrue (has_sector size 1)) (sym size_mid) full)) unpulled
-                      (epoch_going gathered.gone (point x.member loads.mid) y answer e fine honest))
+                      (epoch_going gathered.gone (snapshot x.member loads.mid) y answer e fine honest))
                   | inr kept ↦ (e.establishes.done (sym fine)).whys j below kept ∙ e.leaves.others j not_gone ∙ live.why
                 ];
           }
@@ -200,7 +200,7 @@ count_none =
     ]
 
 -- none, where each cell that is erased lies on a slot that isn't live any more
-sound_repaired : (t : ℕ) (gathered : Gathered) (was read : Stripe) (x y : Point)
+sound_repaired : (t : ℕ) (gathered : Gathered) (was read : Stripe) (x y : Snapshot)
     → Loads t (IsCellOf x.member.array.geometry) gathered was read None x y
     → ((i j : ℕ) → HasCell gathered.erased i j → ¬ IsLiveIn y.member j) → IsTrue y.told.honest → AreRepaired x.member t 0 x.told y.told
 sound_repaired t gathered was read x y loads sound honest = record {
@@ -216,7 +216,7 @@ sound_repaired t gathered was read x y loads sound honest = record {
 }
 
 -- those of the redo
-module _ (t : ℕ) (gathered : Gathered) (was read into : Stripe) (redo : Redo) (x y z : Point)
+module _ (t : ℕ) (gathered : Gathered) (was read into : Stripe) (redo : Redo) (x y z : Snapshot)
     (loads : Loads t (IsCellOf x.member.array.geometry) gathered was read None x y) (rules : IsMembership x.member)
     (formed : IsRedo x.member.array.geometry redo) (on_live : AreOnLive y.member gathered.erased redo.cells)
     (run : Redoes x.member.array.geometry redo into AtRest None y z) (honest : IsTrue z.told.honest) where
@@ -255,7 +255,7 @@ module _ (t : ℕ) (gathered : Gathered) (was read into : Stripe) (redo : Redo) 
         );
   }
 
-pub scrubbed_repaired : (t : ℕ) (answer : Result ℕ Refusal) (x z : Point) → Scrubs t answer x z → IsMembership x.member → (count : ℕ)
+pub scrubbed_repaired : (t : ℕ) (answer : Result ℕ Refusal) (x z : Snapshot) → Scrubs t answer x z → IsMembership x.member → (count : ℕ)
     → answer ≡ Ok count → IsTrue z.told.honest → AreRepaired x.member t count x.told z.told
 scrubbed_repaired t _ _ _ (Scrubs.OutOf x past) rules count same honest = absurd (cc)
 scrubbed_repaired t _ _ _ (Scrubs.Stops was read gathered fault x y below loads) rules count same honest = absurd (cc)

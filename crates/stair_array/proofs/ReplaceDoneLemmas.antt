@@ -20,11 +20,11 @@ use Rattle.stair_member.specs.declared.fault.AdmitFault.{AdmitFault}
 use Rattle.stair_member.specs.declared.fault.AdmitFault.TheVariants as admit
 use Rattle.stair_member.specs.declared.why.Why.{Why}
 use Rattle.stair_state.specs.State.{State}
-use Rattle.stair_session.specs.Courses.{Point, point}
-use Rattle.stair_session.specs.Returning.{IsCalm, Returning}
-use Rattle.stair_session.specs.Session.{seats_in}
-use Rattle.stair_session.proofs.Mending.{LeadsAdmissions, LeadsBeside}
-use Rattle.stair_session.proofs.Serving.{LeadsReads}
+use Rattle.stair_invariant.specs.Effects.{Snapshot, snapshot}
+use Rattle.stair_invariant.specs.Returning.{StaysWithinTolerance, Returning}
+use Rattle.stair_invariant.specs.Session.{seats_in}
+use Rattle.stair_invariant.proofs.Mending.{LeadsAdmissions, LeadsBeside}
+use Rattle.stair_invariant.proofs.Serving.{LeadsReads}
 use Rattle.stair_array.specs.Causes.{HasCause, IsFree, IsSmall}
 use Rattle.stair_array.specs.Draws.{Before, HadSeen, OnMedium, most_drawn}
 use Rattle.stair_array.specs.Looking.{cells_at}
@@ -40,7 +40,7 @@ module _ (returning : Returning) (laws : LeadsReads returning) (besides : LeadsB
     (slot : ℕ) (answer : Answer (ReplaceSlot slot)) (events : List Event) (x y : Seen) (p : Performs (ReplaceSlot slot) answer events x y)
     (honest : IsTrue y.told.honest) (before : List Happening) (s : State) (history : IsHistory x.told.history)
     (state : IsInState returning before s x)
-    (calm : IsCalm returning s.geometry (is_open x.session) before y.told.history)
+    (calm : StaysWithinTolerance returning s.geometry (is_open x.session) before y.told.history)
     (can : CanBeDone (ReplaceSlot slot) s p.was.member x.told.history y.told.history) where
   abbrev m : Membership
   m = p.was.member
@@ -81,16 +81,16 @@ module _ (returning : Returning) (laws : LeadsReads returning) (besides : LeadsB
 
   -- NO OTHER ARRAY is on it
 
-  bears_no_other : (i : ℕ) (given : Result (Unit {0}) Refusal) (u v : Point) → PreparesSlot slot given u v → given ≡ Err (AlreadyArray i)
-      → u ≡ point m x.told → v ≡ point p.is.member y.told → ⊥
+  bears_no_other : (i : ℕ) (given : Result (Unit {0}) Refusal) (u v : Snapshot) → PreparesSlot slot given u v → given ≡ Err (AlreadyArray i)
+      → u ≡ snapshot m x.told → v ≡ snapshot p.is.member y.told → ⊥
   bears_no_other i _ _ _ (WasGone u v only found) is at_u at_v = absurd (cc)
   bears_no_other i _ _ _ (WasSmall has needs mid u v looks small) is at_u at_v = absurd (cc)
   bears_no_other i _ _ _ (Prepared first second mid u v w looks fit later placed sees rules) is at_u at_v = absurd (cc)
   bears_no_other i _ _ _ (WasOther mid u v looks other) is at_u at_v =
-      other.other (own.0 ∙ sym same_geometry ∙ ap (λ (w : Point). w.member.array.geometry) (sym at_u))
+      other.other (own.0 ∙ sym same_geometry ∙ ap (λ (w : Snapshot). w.member.array.geometry) (sym at_u))
     where
       honest_v : IsTrue v.told.honest
-      honest_v = subst (λ (w : Point). IsTrue w.told.honest) (sym at_v) honest
+      honest_v = subst (λ (w : Snapshot). IsTrue w.told.honest) (sym at_v) honest
 
       honest_mid : IsTrue mid.honest
       honest_mid = subst IsTrue (sym looks.later.honest) honest_v
@@ -100,20 +100,20 @@ module _ (returning : Returning) (laws : LeadsReads returning) (besides : LeadsB
 
       at : IsMoment x.told.history held.moment y.told.history
       at =
-          subst (λ (w : Point). IsMoment w.told.history held.moment y.told.history) at_u
-          (subst (λ (w : Point). IsMoment u.told.history held.moment w.told.history) at_v
+          subst (λ (w : Snapshot). IsMoment w.told.history held.moment y.told.history) at_u
+          (subst (λ (w : Snapshot). IsMoment u.told.history held.moment w.told.history) at_v
           (moment_wider {a = IsThis slot (Attach reply.Done)} {b = any_call} (calls_ran (looks.attached honest_mid)) (ran_none v.told.history)
           held.is_one))
 
       own : (other.super.array.geometry ≡ s.geometry) × (other.super.draw ≤ most_drawn)
       own =
           can.fit.own held.moment other.place other.super at
-          (subst (λ (w : Point). NoneWritten (λ i. i ≡ slot) w.told.history held.moment) at_u
+          (subst (λ (w : Snapshot). NoneWritten (λ i. i ≡ slot) w.told.history held.moment) at_u
           (looks_unwritten slot u.told.history mid.history held.moment (looks.attached honest_mid)
           (ran_before {allowed = IsSecondLook slot} (looks.ran honest_v) held.is_one))) other.place_in (held.does other.super other.holds)
 
-  not_other : (i : ℕ) (given : Answer (ReplaceSlot slot)) (u v : Point) → Replaces slot given u v → given ≡ Err (AlreadyArray i)
-      → u ≡ point m x.told → v ≡ point p.is.member y.told → ⊥
+  not_other : (i : ℕ) (given : Answer (ReplaceSlot slot)) (u v : Snapshot) → Replaces slot given u v → given ≡ Err (AlreadyArray i)
+      → u ≡ snapshot m x.told → v ≡ snapshot p.is.member y.told → ⊥
   not_other i _ _ _ (OutOf u past) is at_u at_v = absurd (cc)
   not_other i _ _ _ (Busy u below busy) is at_u at_v = absurd (cc)
   not_other i _ _ _ (Unprepared refusal u v free prepares) is at_u at_v = bears_no_other i (Err refusal) u v prepares is at_u at_v
@@ -127,8 +127,8 @@ module _ (returning : Returning) (laws : LeadsReads returning) (besides : LeadsB
 
   -- ENOUGH SLOTS are left
 
-  not_few : (whys : List Why) (given : Answer (ReplaceSlot slot)) (u v : Point) → Replaces slot given u v → given ≡ Err (TooFew whys)
-      → u ≡ point m x.told → v ≡ point p.is.member y.told → ⊥
+  not_few : (whys : List Why) (given : Answer (ReplaceSlot slot)) (u v : Snapshot) → Replaces slot given u v → given ≡ Err (TooFew whys)
+      → u ≡ snapshot m x.told → v ≡ snapshot p.is.member y.told → ⊥
   not_few whys _ _ _ (OutOf u past) is at_u at_v = absurd (cc)
   not_few whys _ _ _ (Busy u below busy) is at_u at_v = absurd (cc)
   not_few whys _ _ _ (Unprepared refusal u v free prepares) is at_u at_v =
@@ -171,8 +171,8 @@ module _ (returning : Returning) (laws : LeadsReads returning) (besides : LeadsB
       refused (SlotBusy i mark) same cause = cause.3 (sym cause.2 ∙ free.1)
       refused (Gone i) same cause = let some = cause.2.1 honest in online some.moment some.is_one some.holds
       refused (SmallDevice i has needs) same cause = not_small has needs cause.2
-      refused (AlreadyArray i) same cause = not_other i answer (point m x.told) (point p.is.member y.told) p.does same refl refl
-      refused (TooFew whys) same cause = not_few whys answer (point m x.told) (point p.is.member y.told) p.does same refl refl
+      refused (AlreadyArray i) same cause = not_other i answer (snapshot m x.told) (snapshot p.is.member y.told) p.does same refl refl
+      refused (TooFew whys) same cause = not_few whys answer (snapshot m x.told) (snapshot p.is.member y.told) p.does same refl refl
       refused EpochsSpent same cause =
           never_spent (ReplaceSlot slot) m p.is.member x.told y.told
           (serves returning laws besides admissions slot answer events x y p honest before s history state).is_open.array.member p.draws_few room

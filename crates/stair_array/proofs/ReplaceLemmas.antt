@@ -10,12 +10,12 @@ use Rattle.stair_rack.specs.History.{Attach, Happening, Read, Sectors, SlotCall,
 use Rattle.stair_rack.specs.Offline.{IsHeld, IsOffline, IsOfflineUntilAttached}
 use Rattle.stair_rack.specs.Sector.{Good, content}
 use Rattle.stair_rack.specs.Stretch.{WasAnswered}
-use Rattle.stair_rack.specs.Telling.{IsFoundGone, IsLater, Telling}
+use Rattle.stair_rack.specs.RackState.{IsFoundGone, IsLater, RackState}
 use Rattle.stair_rack.specs.declared.rack.Reply.TheVariants as reply
 use Rattle.stair_rack.proofs.MomentLemmas.{IsThis, at_end, at_some_wider, calls_ran, moment_between, moment_wider, ran_after, ran_join, ran_none, ran_weakened}
 use Rattle.stair_rack.proofs.OfflineLemmas.{held_on, offline_now}
 use Rattle.stair_rack.proofs.StretchLemmas.{answered_allowed}
-use Rattle.stair_rack.proofs.TellingLemmas.{gones_wider, later_join, later_none, reading_wider, some_wider}
+use Rattle.stair_rack.proofs.RackStateLemmas.{gones_wider, later_join, later_none, reading_wider, some_wider}
 use Rattle.stair_super.specs.Spelling.{spelled}
 use Rattle.stair_super.specs.Superblock.{mark_in}
 use Rattle.stair_super.specs.declared.configuration.Configuration.{Configuration}
@@ -24,15 +24,15 @@ use Rattle.stair_member.specs.Aims.{mark_for}
 use Rattle.stair_member.specs.Editions.{copy_of, edition_of}
 use Rattle.stair_member.specs.Establishing.{Joins, refusal_in}
 use Rattle.stair_member.specs.Membership.{IsHere, Membership, why_of}
-use Rattle.stair_member.specs.declared.aim.Aim.TheVariants.{Admit}
+use Rattle.stair_member.specs.declared.aim.EpochChange.TheVariants.{Admit}
 use Rattle.stair_member.specs.declared.fault.AdmitFault.{AdmitFault}
 use Rattle.stair_member.specs.declared.fault.AdmitFault.TheVariants as admit
 use Rattle.stair_member.specs.declared.fault.FenceFault.{FenceFault}
 use Rattle.stair_member.specs.declared.fault.FenceFault.TheVariants as fence
 use Rattle.stair_journal.proofs.ToldLemmas.{answered_cases}
-use Rattle.stair_session.specs.Courses.{Point, point}
-use Rattle.stair_session.specs.Rebuilding.{Rebuild}
-use Rattle.stair_session.specs.Session.{IsArray, Remembered}
+use Rattle.stair_invariant.specs.Effects.{Snapshot, snapshot}
+use Rattle.stair_invariant.specs.Rebuilding.{Rebuild}
+use Rattle.stair_invariant.specs.Session.{IsArray, Remembered}
 use Rattle.stair_array.specs.Causes.{BearsOther, HasCause, IsAllowed, IsFree, IsSmall, MemberGoesOn, MarkGoesOn, WasGoneTo, WhyGoesOn}
 use Rattle.stair_array.specs.Created.{created_sector}
 use Rattle.stair_array.specs.Draws.{Before, DrawsFew, weights}
@@ -61,23 +61,23 @@ down_not_here m j marks down here =
 -- WHAT A REPLACEMENT CAME TO
 
 -- the member is as it was, and no slot that takes part was called
-record IsAsBefore (x z : Point) : Type 0 where
+record IsAsBefore (x z : Snapshot) : Type 0 where
   pub member : z.member ≡ x.member
   pub later : IsLater x.told z.told
   pub spared : IsTrue z.told.honest → (j : ℕ) (call : SlotCall) → IsHere x.member j → ¬ WasAnswered j call x.told.history z.told.history
 
-data Replaced (slot : ℕ) (rebuild : Option Rebuild) (known : Option Remembered) (answer : Result (Unit {0}) Refusal) (x z : Point) : Type 0 where
+data Replaced (slot : ℕ) (rebuild : Option Rebuild) (known : Option Remembered) (answer : Result (Unit {0}) Refusal) (x z : Snapshot) : Type 0 where
   AsBefore : (refusal : Refusal) → answer ≡ Err refusal → IsAsBefore x z
       → HasCause (ReplaceSlot slot) refusal (running x.member rebuild known) z.member x.told z.told → Replaced slot rebuild known answer x z
-  Joined : (joined : Result Slots AdmitFault) (y : Point) → answer ≡ joined_as joined → IsFree x.member slot → IsReady slot x y
+  Joined : (joined : Result Slots AdmitFault) (y : Snapshot) → answer ≡ joined_as joined → IsFree x.member slot → IsReady slot x y
       → Joins (Admit slot) slot y.member z.member joined y.told z.told → Replaced slot rebuild known answer x z
 
-as_before_none : (x : Point) → IsAsBefore x x
+as_before_none : (x : Snapshot) → IsAsBefore x x
 as_before_none x =
     record { member = refl; later = later_none x.told; spared = λ honest j call here was. never_answered j call x.told.history was }
 
 -- where the calls are on a slot that doesn't take part
-module _ (slot : ℕ) (x z : Point) (away : ¬ IsHere x.member slot) where
+module _ (slot : ℕ) (x z : Snapshot) (away : ¬ IsHere x.member slot) where
   spared_by : Ran (λ j c. j ≡ slot) x.told.history z.told.history → (j : ℕ) (call : SlotCall) → IsHere x.member j
       → ¬ WasAnswered j call x.told.history z.told.history
   spared_by ran j call here was =
@@ -99,7 +99,7 @@ module _ (slot : ℕ) (x z : Point) (away : ¬ IsHere x.member slot) where
         (ran_weakened {allowed = IsPreparing x.member.array.geometry slot} {more = λ j c. j ≡ slot} preparing_slot (only.ran honest));
   }
 
-  module _ (mid : Telling) (looks : Looks slot mid x z) where
+  module _ (mid : RackState) (looks : Looks slot mid x z) where
     before_looks : IsAsBefore x z
     before_looks = record {
       member = looks.member;
@@ -135,7 +135,7 @@ module _ (slot : ℕ) (x z : Point) (away : ¬ IsHere x.member slot) where
       other = is.other;
     }
 
-unprepared : (slot : ℕ) (rebuild : Option Rebuild) (known : Option Remembered) (answer : Result (Unit {0}) Refusal) (x z : Point) → PreparesSlot slot answer x z
+unprepared : (slot : ℕ) (rebuild : Option Rebuild) (known : Option Remembered) (answer : Result (Unit {0}) Refusal) (x z : Snapshot) → PreparesSlot slot answer x z
     → IsFree x.member slot → ¬ IsHere x.member slot → (refusal : Refusal) → answer ≡ Err refusal
     → IsAsBefore x z × HasCause (ReplaceSlot slot) refusal (running x.member rebuild known) z.member x.told z.told
 unprepared slot rebuild known _ _ _ (PreparesSlot.WasGone x z only gone) free away refusal is =
@@ -157,7 +157,7 @@ unprepared slot rebuild known _ _ _ (PreparesSlot.WasOther mid x z looks other) 
     )
 unprepared slot rebuild known _ _ _ (PreparesSlot.Prepared first second mid x y z looks fit later placed sees rules) free away refusal is = absurd (cc)
 
-replaced : (slot : ℕ) (rebuild : Option Rebuild) (known : Option Remembered) (answer : Result (Unit {0}) Refusal) (x z : Point) → Replaces slot answer x z
+replaced : (slot : ℕ) (rebuild : Option Rebuild) (known : Option Remembered) (answer : Result (Unit {0}) Refusal) (x z : Snapshot) → Replaces slot answer x z
     → IsArray (running x.member rebuild known) → Replaced slot rebuild known answer x z
 replaced slot rebuild known _ _ _ (Replaces.OutOf x past) array =
     Replaced.AsBefore (OutOfRange slot x.member.array.geometry.n) refl (as_before_none x)
@@ -173,7 +173,7 @@ replaced slot rebuild known _ _ _ (Replaces.Admitted joined x y z free prepares 
 
 -- AN ADMISSION
 
-module _ (slot : ℕ) (x y z : Point) (joined : Result Slots AdmitFault) (free : IsFree x.member slot) (r : IsReady slot x y)
+module _ (slot : ℕ) (x y z : Snapshot) (joined : Result Slots AdmitFault) (free : IsFree x.member slot) (r : IsReady slot x y)
     (joins : Joins (Admit slot) slot y.member z.member joined y.told z.told) where
   after : IsAfter y.told z.told
   after =
@@ -276,7 +276,7 @@ module _ (slot : ℕ) (x y z : Point) (joined : Result Slots AdmitFault) (free :
         ]
 
 -- by what is answered of it
-joined_caused : (slot : ℕ) (rebuild : Option Rebuild) (known : Option Remembered) (x y z : Point) (joined : Result Slots AdmitFault) → IsFree x.member slot → IsReady slot x y
+joined_caused : (slot : ℕ) (rebuild : Option Rebuild) (known : Option Remembered) (x y z : Snapshot) (joined : Result Slots AdmitFault) → IsFree x.member slot → IsReady slot x y
     → Joins (Admit slot) slot y.member z.member joined y.told z.told → (refusal : Refusal) → joined_as joined ≡ Err refusal
     → HasCause (ReplaceSlot slot) refusal (running x.member rebuild known) z.member x.told z.told
 joined_caused slot rebuild known x y z (Ok fallen) free r joins refusal is = absurd (cc)
@@ -302,7 +302,7 @@ joined_stands (Err (admit.TooFew whys)) going = absurd (going tt)
 joined_stands (Err admit.EpochsSpent) going = absurd (going tt)
 joined_stands (Err (admit.Gone told)) going = refl
 
-joined_made : (slot : ℕ) (x y z : Point) (joined : Result Slots AdmitFault) → IsFree x.member slot → IsReady slot x y
+joined_made : (slot : ℕ) (x y z : Snapshot) (joined : Result Slots AdmitFault) → IsFree x.member slot → IsReady slot x y
     → Joins (Admit slot) slot y.member z.member joined y.told z.told → joined_as joined ≡ Ok tt → IsTrue z.told.honest → (k : ℕ)
     → k < chunks_start z.member.array.geometry → WasSound slot k x.told z.told
 joined_made slot x y z (Ok fallen) free r joins is honest =
@@ -317,13 +317,13 @@ joined_made slot x y z (Err (admit.Gone told)) free r joins is honest = absurd (
 -- WHAT IS PROMISED
 
 module _ (slot : ℕ) (answer : Answer (ReplaceSlot slot)) (m last : Membership) (rebuild : Option Rebuild) (known : Option Remembered) (stopped : Option FenceFault)
-    (old new : Telling) (array : IsArray (running m rebuild known)) (does : Replaces slot answer (point m old) (point last new))
+    (old new : RackState) (array : IsArray (running m rebuild known)) (does : Replaces slot answer (snapshot m old) (snapshot last new))
     (kept : Keeps answer stopped) where
   abbrev Came : Type 0
-  Came = Replaced slot rebuild known answer (point m old) (point last new)
+  Came = Replaced slot rebuild known answer (snapshot m old) (snapshot last new)
 
   it : Came
-  it = replaced slot rebuild known answer (point m old) (point last new) does array
+  it = replaced slot rebuild known answer (snapshot m old) (snapshot last new) does array
 
   -- a slot that may be admitted doesn't take part
   not_here : IsFree m slot → ¬ IsHere m slot
@@ -331,11 +331,11 @@ module _ (slot : ℕ) (answer : Answer (ReplaceSlot slot)) (m last : Membership)
 
   later : Came → IsLater old new
   later (Replaced.AsBefore refusal same is cause) = is.later
-  later (Replaced.Joined joined y same free r joins) = joined_later slot (point m old) y (point last new) joined free r joins
+  later (Replaced.Joined joined y same free r joins) = joined_later slot (snapshot m old) y (snapshot last new) joined free r joins
 
   geometry : Came → last.array.geometry ≡ m.array.geometry
   geometry (Replaced.AsBefore refusal same is cause) = ap (λ (n : Membership). n.array.geometry) is.member
-  geometry (Replaced.Joined joined y same free r joins) = joined_geometry slot (point m old) y (point last new) joined free r joins
+  geometry (Replaced.Joined joined y same free r joins) = joined_geometry slot (snapshot m old) y (snapshot last new) joined free r joins
 
   goes_on : Came → MemberGoesOn (ReplaceSlot slot) old new m last
   goes_on (Replaced.AsBefore refusal same is cause) = record {
@@ -344,7 +344,7 @@ module _ (slot : ℕ) (answer : Answer (ReplaceSlot slot)) (m last : Membership)
     marks = λ j below. MarkGoesOn.Stays (ap (λ (n : Membership). mark_in n.array j) is.member);
     drawn = let alike : last.drawn ≡ m.drawn = ap (λ (n : Membership). n.drawn) is.member in omega (arith, alike);
   }
-  goes_on (Replaced.Joined joined y same free r joins) = joined_goes_on slot (point m old) y (point last new) joined free r joins rebuild known array
+  goes_on (Replaced.Joined joined y same free r joins) = joined_goes_on slot (snapshot m old) y (snapshot last new) joined free r joins rebuild known array
 
   draws : Came → DrawsFew (ReplaceSlot slot) m last old new
   draws (Replaced.AsBefore refusal same is cause) = record {
@@ -355,7 +355,7 @@ module _ (slot : ℕ) (answer : Answer (ReplaceSlot slot)) (m last : Membership)
         let weigh : weights last ≡ weights m = ap weights is.member in
         omega (arith, drawn, weigh);
   }
-  draws (Replaced.Joined joined y same free r joins) = joined_draws slot (point m old) y (point last new) joined free r joins rebuild known array
+  draws (Replaced.Joined joined y same free r joins) = joined_draws slot (snapshot m old) y (snapshot last new) joined free r joins rebuild known array
 
   caused : Came → (given : Answer (ReplaceSlot slot)) → answer ≡ given
       → IfErr given (λ why. HasCause (ReplaceSlot slot) why (running m rebuild known) last old new)
@@ -365,7 +365,7 @@ module _ (slot : ℕ) (answer : Answer (ReplaceSlot slot)) (m last : Membership)
       let one : refusal ≡ why = cc in
       subst (λ (s : Refusal). HasCause (ReplaceSlot slot) s (running m rebuild known) last old new) one cause
   caused (Replaced.Joined joined y same free r joins) (Err why) is =
-      joined_caused slot rebuild known (point m old) y (point last new) joined free r joins why (sym same ∙ is)
+      joined_caused slot rebuild known (snapshot m old) y (snapshot last new) joined free r joins why (sym same ∙ is)
 
   -- what is done was begun
   done_free : Came → answer ≡ Ok tt → IsFree m slot
@@ -387,7 +387,7 @@ module _ (slot : ℕ) (answer : Answer (ReplaceSlot slot)) (m last : Membership)
   left_out : Came → IsTrue new.honest → AreAllLeftOut m last old new
   left_out (Replaced.AsBefore refusal same is cause) honest = λ j call here was gone. absurd (is.spared honest j call here was)
   left_out (Replaced.Joined joined y same free r joins) honest =
-      joined_left_out slot (point m old) y (point last new) joined free r joins (not_here free) honest
+      joined_left_out slot (snapshot m old) y (snapshot last new) joined free r joins (not_here free) honest
 
   made : (given : Answer (ReplaceSlot slot)) → answer ≡ given → IsTrue new.honest → HasMade (ReplaceSlot slot) given (running m rebuild known) last old new
   made (Err why) is honest = tt
@@ -397,7 +397,7 @@ module _ (slot : ℕ) (answer : Answer (ReplaceSlot slot)) (m last : Membership)
       by (Replaced.AsBefore refusal same before cause) =
           let never : ◌≡◌ {A = Result (Unit {0}) Refusal} (Err refusal) (Ok done) = sym same ∙ is in absurd (cc)
       by (Replaced.Joined joined y same free r joins) =
-          joined_made slot (point m old) y (point last new) joined free r joins (sym same ∙ is) honest
+          joined_made slot (snapshot m old) y (snapshot last new) joined free r joins (sym same ∙ is) honest
 
   looked : (given : Answer (ReplaceSlot slot)) → answer ≡ given → IsTrue new.honest → WasFitBefore (ReplaceSlot slot) given m old new
   looked (Err why) is honest = tt
@@ -406,7 +406,7 @@ module _ (slot : ℕ) (answer : Answer (ReplaceSlot slot)) (m last : Membership)
       by : Came → WasFitBefore (ReplaceSlot slot) (Ok done) m old new
       by (Replaced.AsBefore refusal same before cause) =
           let never : ◌≡◌ {A = Result (Unit {0}) Refusal} (Err refusal) (Ok done) = sym same ∙ is in absurd (cc)
-      by (Replaced.Joined joined y same free r joins) = joined_fit slot (point m old) y (point last new) joined free r joins honest
+      by (Replaced.Joined joined y same free r joins) = joined_fit slot (snapshot m old) y (snapshot last new) joined free r joins honest
 
   pub replace_performs : Performs (ReplaceSlot slot) answer (events_of (ReplaceSlot slot) answer m.array last.array)
       (record { told = old; session = Opened (running m rebuild known) })

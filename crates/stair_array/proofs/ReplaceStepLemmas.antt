@@ -16,22 +16,22 @@ use Rattle.stair_super.specs.declared.mark.Mark.TheVariants as mark
 use Rattle.stair_member.specs.Aims.{mark_for}
 use Rattle.stair_member.specs.Establishing.{Joins, refusal_in, Establishes}
 use Rattle.stair_member.specs.Membership.{Membership, why_of}
-use Rattle.stair_member.specs.declared.aim.Aim.TheVariants.{Admit}
+use Rattle.stair_member.specs.declared.aim.EpochChange.TheVariants.{Admit}
 use Rattle.stair_member.specs.declared.fault.AdmitFault.{AdmitFault}
 use Rattle.stair_member.specs.declared.fault.AdmitFault.TheVariants as admit
 use Rattle.stair_member.specs.declared.fault.FenceFault.{FenceFault}
 use Rattle.stair_member.specs.declared.fault.FenceFault.TheVariants as fence
 use Rattle.stair_member.specs.declared.why.Why.{Why}
 use Rattle.stair_state.specs.State.{State}
-use Rattle.stair_session.specs.Courses.{Point, point}
-use Rattle.stair_session.specs.InSession.{state_with}
-use Rattle.stair_session.specs.Leading.{IsBesideArray, led_to}
-use Rattle.stair_session.specs.Returning.{IsCalm, Returning}
-use Rattle.stair_session.specs.SeatSteps.{EachMayDrop, SeatGoes, SeatsMove}
-use Rattle.stair_session.specs.Session.{seats_in}
-use Rattle.stair_session.proofs.FencesLemmas.{stays_open}
-use Rattle.stair_session.proofs.Serving.{IsCalmTo, IsGoing, IsServing, LeadsReads}
-use Rattle.stair_session.proofs.Mending.{IsLookedAt, calm_going, LeadsAdmissions, LeadsBeside, epoch_moves, seen_by}
+use Rattle.stair_invariant.specs.Effects.{Snapshot, snapshot}
+use Rattle.stair_invariant.specs.InSession.{state_with}
+use Rattle.stair_invariant.specs.Leading.{IsBesideArray, led_to}
+use Rattle.stair_invariant.specs.Returning.{StaysWithinTolerance, Returning}
+use Rattle.stair_invariant.specs.SeatSteps.{EachMayDrop, SeatGoes, SeatsMove}
+use Rattle.stair_invariant.specs.Session.{seats_in}
+use Rattle.stair_invariant.proofs.FencesLemmas.{stays_open}
+use Rattle.stair_invariant.proofs.Serving.{StaysWithinToleranceTo, IsGoing, IsServing, LeadsReads}
+use Rattle.stair_invariant.proofs.Mending.{IsLookedAt, calm_going, LeadsAdmissions, LeadsBeside, epoch_moves, seen_by}
 use Rattle.stair_array.specs.Calls.{refused}
 use Rattle.stair_array.specs.Causes.{IsFree}
 use Rattle.stair_array.specs.Machine.{AlreadyArray, Answer, EpochsSpent, Gone, IsAsItWas, IsFinal, OutOfRange, Recover, Refusal, ReplaceSlot, Row, SlotBusy, SmallDevice}
@@ -46,7 +46,7 @@ use Rattle.stair_array.proofs.PreparedSlotLemmas.{IsReady, ready_of}
 use Rattle.stair_array.proofs.ServingLemmas.{going_sooner}
 
 -- a refusal before the admission isn't one for good
-pub unprepared_goes_on : (slot : ℕ) (answer : Result (Unit {0}) Refusal) (x z : Point) → PreparesSlot slot answer x z → (refusal : Refusal)
+pub unprepared_goes_on : (slot : ℕ) (answer : Result (Unit {0}) Refusal) (x z : Snapshot) → PreparesSlot slot answer x z → (refusal : Refusal)
     → answer ≡ Err refusal → ¬ IsFinal refusal
 unprepared_goes_on slot _ _ _ (WasGone x y only found) refusal is =
     let same : Gone slot ≡ refusal = cc in subst (λ (r : Refusal). ¬ IsFinal r) same (λ never. never)
@@ -75,8 +75,8 @@ module _ (returning : Returning) (laws : LeadsReads returning) (besides : LeadsB
   pub serves : IsServing returning before p.was begins.words s.content x.told.history
   serves = serves_first returning laws (ReplaceSlot slot) no_opening answer events x y p before s state history
 
-  pub calm_begun : (h : List Happening) → IsCalm returning s.geometry (is_open x.session) before h
-      → IsCalmTo returning m.array.geometry before h
+  pub calm_begun : (h : List Happening) → StaysWithinTolerance returning s.geometry (is_open x.session) before h
+      → StaysWithinToleranceTo returning m.array.geometry before h
   calm_begun = calm_first returning laws (ReplaceSlot slot) no_opening answer events x y p before s state
 
   ran : Ran any_call x.told.history y.told.history
@@ -118,8 +118,8 @@ module _ (returning : Returning) (laws : LeadsReads returning) (besides : LeadsB
 
   -- WHERE IT WAS REFUSED BEFORE THE ADMISSION nothing of the array was changed
 
-  still : (v : Point) → v ≡ point last y.told → v.member ≡ m → Ran (IsBesideArray p.was) x.told.history v.told.history → (refusal : Refusal)
-      → answer ≡ Err refusal → ¬ IsFinal refusal → IsCalmTo returning m.array.geometry before y.told.history
+  still : (v : Snapshot) → v ≡ snapshot last y.told → v.member ≡ m → Ran (IsBesideArray p.was) x.told.history v.told.history → (refusal : Refusal)
+      → answer ≡ Err refusal → ¬ IsFinal refusal → StaysWithinToleranceTo returning m.array.geometry before y.told.history
       → IsLed returning m before s (ReplaceSlot slot) answer y
   still v at same_member beside refusal same not_final calm =
       record {
@@ -147,10 +147,10 @@ module _ (returning : Returning) (laws : LeadsReads returning) (besides : LeadsB
       }
     where
       same_last : last ≡ m
-      same_last = sym (ap (λ (u : Point). u.member) at) ∙ same_member
+      same_last = sym (ap (λ (u : Snapshot). u.member) at) ∙ same_member
 
       to_y : Ran (IsBesideArray p.was) x.told.history y.told.history
-      to_y = subst (λ (u : Point). Ran (IsBesideArray p.was) x.told.history u.told.history) at beside
+      to_y = subst (λ (u : Snapshot). Ran (IsBesideArray p.was) x.told.history u.told.history) at beside
 
       then : IsServing returning before p.was begins.words s.content y.told.history
       then =
@@ -159,7 +159,7 @@ module _ (returning : Returning) (laws : LeadsReads returning) (besides : LeadsB
 
   -- what a crash leaves amid calls that are beside
   abbrev LeavesAt : List Happening → Type 0
-  LeavesAt c = IsCalmTo returning m.array.geometry before c → EachImage (IsLeftBy returning (ReplaceSlot slot) m before c s) c
+  LeavesAt c = StaysWithinToleranceTo returning m.array.geometry before c → EachImage (IsLeftBy returning (ReplaceSlot slot) m before c s) c
 
   beside_leaves : (h : List Happening) → Ran (IsBesideArray p.was) x.told.history h → AtEveryMoment LeavesAt x.told.history h
   beside_leaves h beside =
@@ -188,7 +188,7 @@ module _ (returning : Returning) (laws : LeadsReads returning) (besides : LeadsB
       (preparing_beside p.was serves.is_open.array slot (down_out p.was serves.is_open.array slot free.1)) ran
 
   -- THE ADMISSION, by what the look at the medium saw
-  module _ (z : Point) (prep : IsReady slot (point m x.told) z) (free : IsFree m slot) (honest_z : IsTrue z.told.honest)
+  module _ (z : Snapshot) (prep : IsReady slot (snapshot m x.told) z) (free : IsFree m slot) (honest_z : IsTrue z.told.honest)
       (ran_z : Ran any_call z.told.history y.told.history) where
     looked : IsLookedAt p.was slot z.member x.told.history z.told.history
     looked = prepared_looked p.was serves.is_open.array slot x.told z prep honest_z free.0 free.1
@@ -238,7 +238,7 @@ module _ (returning : Returning) (laws : LeadsReads returning) (besides : LeadsB
 
     -- refused for good
     failed : (fault : FenceFault) → answer ≡ Err (refused fault) → IsFinal (refused fault)
-        → Establishes (Admit slot) z.member last (Some fault) z.told y.told → IsCalmTo returning m.array.geometry before y.told.history
+        → Establishes (Admit slot) z.member last (Some fault) z.told y.told → StaysWithinToleranceTo returning m.array.geometry before y.told.history
         → IsLed returning m before s (ReplaceSlot slot) answer y
     failed fault same final e calm =
         let found =
@@ -263,12 +263,12 @@ module _ (returning : Returning) (laws : LeadsReads returning) (besides : LeadsB
 
     -- it isn't for want of slots
     enough : (whys : List Why) → Establishes (Admit slot) z.member last (Some (fence.TooFew whys)) z.told y.told
-        → IsCalmTo returning m.array.geometry before y.told.history → ⊥
+        → StaysWithinToleranceTo returning m.array.geometry before y.told.history → ⊥
     enough whys e calm =
         admissions.enough before p.was begins.words s.content slot z.member last whys x.told.history z.told y.told serves looked e honest calm
 
     -- an epoch stands, with the slot or without it
-    module _ (e : Establishes (Admit slot) z.member last None z.told y.told) (calm : IsCalmTo returning m.array.geometry before y.told.history) where
+    module _ (e : Establishes (Admit slot) z.member last None z.told y.told) (calm : StaysWithinToleranceTo returning m.array.geometry before y.told.history) where
       on_y : IsGoing returning m.array.geometry before y.told.history
       on_y = calm_going returning m.array.geometry before y.told.history all_ran calm
 
@@ -351,7 +351,7 @@ module _ (returning : Returning) (laws : LeadsReads returning) (besides : LeadsB
       }
 
     admitted_leads : (joined : Result Slots AdmitFault) → Joins (Admit slot) slot z.member last joined z.told y.told → answer ≡ joined_as joined
-        → IsCalmTo returning m.array.geometry before y.told.history → IsLed returning m before s (ReplaceSlot slot) answer y
+        → StaysWithinToleranceTo returning m.array.geometry before y.told.history → IsLed returning m before s (ReplaceSlot slot) answer y
     admitted_leads (Ok fallen) joins same calm = was_admitted joins.establishes calm same joins.told
     admitted_leads (Err (admit.Gone i)) joins same calm =
         was_gone joins.establishes calm (same ∙ ap (λ (k : ℕ). Err (Gone k)) joins.told.0) joins.told.1
@@ -361,35 +361,35 @@ module _ (returning : Returning) (laws : LeadsReads returning) (besides : LeadsB
   -- ALL OF IT
 
   -- where it was refused at once
-  at_once : (u : Point) → u ≡ point m x.told → u ≡ point last y.told → (refusal : Refusal) → answer ≡ Err refusal → ¬ IsFinal refusal
-      → IsCalmTo returning m.array.geometry before y.told.history → IsLed returning m before s (ReplaceSlot slot) answer y
+  at_once : (u : Snapshot) → u ≡ snapshot m x.told → u ≡ snapshot last y.told → (refusal : Refusal) → answer ≡ Err refusal → ¬ IsFinal refusal
+      → StaysWithinToleranceTo returning m.array.geometry before y.told.history → IsLed returning m before s (ReplaceSlot slot) answer y
   at_once u at_u at_v =
-      still u at_v (ap (λ (w : Point). w.member) at_u)
-      (subst (λ (w : Point). Ran (IsBesideArray p.was) x.told.history w.told.history) (sym at_u) (ran_none x.told.history))
+      still u at_v (ap (λ (w : Snapshot). w.member) at_u)
+      (subst (λ (w : Snapshot). Ran (IsBesideArray p.was) x.told.history w.told.history) (sym at_u) (ran_none x.told.history))
 
-  free_at : (u : Point) → u ≡ point m x.told → IsFree u.member slot → IsFree m slot
-  free_at u at free = subst (λ (w : Point). IsFree w.member slot) at free
+  free_at : (u : Snapshot) → u ≡ snapshot m x.told → IsFree u.member slot → IsFree m slot
+  free_at u at free = subst (λ (w : Snapshot). IsFree w.member slot) at free
 
-  prepared_at : (given : Result (Unit {0}) Refusal) (u v : Point) → u ≡ point m x.told → PreparesSlot slot given u v → IsTrue v.told.honest
+  prepared_at : (given : Result (Unit {0}) Refusal) (u v : Snapshot) → u ≡ snapshot m x.told → PreparesSlot slot given u v → IsTrue v.told.honest
       → Ran (IsPreparing m.array.geometry slot) x.told.history v.told.history
   prepared_at given u v at prepares honest_v =
-      subst (λ (w : Point). Ran (IsPreparing w.member.array.geometry slot) w.told.history v.told.history) at
+      subst (λ (w : Snapshot). Ran (IsPreparing w.member.array.geometry slot) w.told.history v.told.history) at
       (prepares_ran slot given u v prepares honest_v)
 
-  honest_at : (v : Point) → v ≡ point last y.told → IsTrue v.told.honest
-  honest_at v at = subst (λ (w : Point). IsTrue w.told.honest) (sym at) honest
+  honest_at : (v : Snapshot) → v ≡ snapshot last y.told → IsTrue v.told.honest
+  honest_at v at = subst (λ (w : Snapshot). IsTrue w.told.honest) (sym at) honest
 
   -- an admission
-  module _ (joined : Result Slots AdmitFault) (u z v : Point) (free : IsFree u.member slot) (prepares : PreparesSlot slot (Ok tt) u z)
-      (joins : Joins (Admit slot) slot z.member v.member joined z.told v.told) (at_u : u ≡ point m x.told) (at_v : v ≡ point last y.told) where
+  module _ (joined : Result Slots AdmitFault) (u z v : Snapshot) (free : IsFree u.member slot) (prepares : PreparesSlot slot (Ok tt) u z)
+      (joins : Joins (Admit slot) slot z.member v.member joined z.told v.told) (at_u : u ≡ snapshot m x.told) (at_v : v ≡ snapshot last y.told) where
     honest_z : IsTrue z.told.honest
     honest_z = subst IsTrue (sym joins.establishes.honest) (honest_at v at_v)
 
-    prep : IsReady slot (point m x.told) z
-    prep = ready_of slot (Ok tt) (point m x.told) z (subst (λ (w : Point). PreparesSlot slot (Ok tt) w z) at_u prepares) refl
+    prep : IsReady slot (snapshot m x.told) z
+    prep = ready_of slot (Ok tt) (snapshot m x.told) z (subst (λ (w : Snapshot). PreparesSlot slot (Ok tt) w z) at_u prepares) refl
 
     joins_y : Joins (Admit slot) slot z.member last joined z.told y.told
-    joins_y = subst (λ (w : Point). Joins (Admit slot) slot z.member w.member joined z.told w.told) at_v joins
+    joins_y = subst (λ (w : Snapshot). Joins (Admit slot) slot z.member w.member joined z.told w.told) at_v joins
 
     first_ran : Ran (IsPreparing m.array.geometry slot) x.told.history z.told.history
     first_ran = prepared_at (Ok tt) u z at_u prepares honest_z
@@ -397,11 +397,11 @@ module _ (returning : Returning) (laws : LeadsReads returning) (besides : LeadsB
     ran_z : Ran any_call z.told.history y.told.history
     ran_z = (epoch_after (Admit slot) z.member last (refusal_in joined) z.told y.told joins_y.establishes).later.ran honest
 
-    admission_leads : answer ≡ joined_as joined → IsCalmTo returning m.array.geometry before y.told.history
+    admission_leads : answer ≡ joined_as joined → StaysWithinToleranceTo returning m.array.geometry before y.told.history
         → IsLed returning m before s (ReplaceSlot slot) answer y
     admission_leads is calm = admitted_leads z prep (free_at u at_u free) honest_z ran_z joined joins_y is calm
 
-    pub admission_enough : IsCalmTo returning m.array.geometry before y.told.history → (whys : List Why)
+    pub admission_enough : StaysWithinToleranceTo returning m.array.geometry before y.told.history → (whys : List Why)
         → refusal_in joined ≡ Some (fence.TooFew whys) → ⊥
     admission_enough calm whys is =
         enough z prep (free_at u at_u free) honest_z ran_z whys
@@ -414,38 +414,38 @@ module _ (returning : Returning) (laws : LeadsReads returning) (besides : LeadsB
         (λ c at calm.
         joins_leaves z prep (free_at u at_u free) honest_z ran_z (refusal_in joined) joins_y.establishes c at calm))
 
-  leads_by : (given : Answer (ReplaceSlot slot)) (u v : Point) → Replaces slot given u v → u ≡ point m x.told → v ≡ point last y.told
-      → answer ≡ given → IsCalmTo returning m.array.geometry before y.told.history → IsLed returning m before s (ReplaceSlot slot) answer y
+  leads_by : (given : Answer (ReplaceSlot slot)) (u v : Snapshot) → Replaces slot given u v → u ≡ snapshot m x.told → v ≡ snapshot last y.told
+      → answer ≡ given → StaysWithinToleranceTo returning m.array.geometry before y.told.history → IsLed returning m before s (ReplaceSlot slot) answer y
   leads_by _ _ _ (OutOf u past) at_u at_v is calm =
       at_once u at_u at_v (OutOfRange slot u.member.array.geometry.n) is (λ never. never) calm
   leads_by _ _ _ (Busy u below busy) at_u at_v is calm =
       at_once u at_u at_v (SlotBusy slot (mark_in u.member.array slot)) is (λ never. never) calm
   leads_by _ _ _ (Unprepared refusal u v free prepares) at_u at_v is calm =
-      still v at_v (unprepared_member slot (Err refusal) u v prepares refusal refl ∙ ap (λ (w : Point). w.member) at_u)
+      still v at_v (unprepared_member slot (Err refusal) u v prepares refusal refl ∙ ap (λ (w : Snapshot). w.member) at_u)
       (preparing (free_at u at_u free) (prepared_at (Err refusal) u v at_u prepares (honest_at v at_v))) refusal is
       (unprepared_goes_on slot (Err refusal) u v prepares refusal refl) calm
   leads_by _ _ _ (Admitted joined u z v free prepares joins) at_u at_v is calm =
       admission_leads joined u z v free prepares joins at_u at_v is calm
 
-  leaves_by : (given : Answer (ReplaceSlot slot)) (u v : Point) → Replaces slot given u v → u ≡ point m x.told → v ≡ point last y.told
+  leaves_by : (given : Answer (ReplaceSlot slot)) (u v : Snapshot) → Replaces slot given u v → u ≡ snapshot m x.told → v ≡ snapshot last y.told
       → AtEveryMoment LeavesAt x.told.history y.told.history
   leaves_by _ _ _ (OutOf u past) at_u at_v =
       beside_leaves y.told.history
-      (subst (λ (w : Point). Ran (IsBesideArray p.was) x.told.history w.told.history) (sym at_u ∙ at_v) (ran_none x.told.history))
+      (subst (λ (w : Snapshot). Ran (IsBesideArray p.was) x.told.history w.told.history) (sym at_u ∙ at_v) (ran_none x.told.history))
   leaves_by _ _ _ (Busy u below busy) at_u at_v =
       beside_leaves y.told.history
-      (subst (λ (w : Point). Ran (IsBesideArray p.was) x.told.history w.told.history) (sym at_u ∙ at_v) (ran_none x.told.history))
+      (subst (λ (w : Snapshot). Ran (IsBesideArray p.was) x.told.history w.told.history) (sym at_u ∙ at_v) (ran_none x.told.history))
   leaves_by _ _ _ (Unprepared refusal u v free prepares) at_u at_v =
       beside_leaves y.told.history
       (preparing (free_at u at_u free)
-      (subst (λ (w : Point). Ran (IsPreparing m.array.geometry slot) x.told.history w.told.history) at_v
+      (subst (λ (w : Snapshot). Ran (IsPreparing m.array.geometry slot) x.told.history w.told.history) at_v
       (prepared_at (Err refusal) u v at_u prepares (honest_at v at_v))))
   leaves_by _ _ _ (Admitted joined u z v free prepares joins) at_u at_v = admission_leaves joined u z v free prepares joins at_u at_v
 
-  pub leads : IsCalm returning s.geometry (is_open x.session) before y.told.history → IsLed returning m before s (ReplaceSlot slot) answer y
-  leads calm = leads_by answer (point m x.told) (point last y.told) p.does refl refl refl (calm_begun y.told.history calm)
+  pub leads : StaysWithinTolerance returning s.geometry (is_open x.session) before y.told.history → IsLed returning m before s (ReplaceSlot slot) answer y
+  leads calm = leads_by answer (snapshot m x.told) (snapshot last y.told) p.does refl refl refl (calm_begun y.told.history calm)
 
-  pub cuts : (c : List Happening) → IsMoment x.told.history c y.told.history → IsCalm returning s.geometry (is_open x.session) before c
+  pub cuts : (c : List Happening) → IsMoment x.told.history c y.told.history → StaysWithinTolerance returning s.geometry (is_open x.session) before c
       → EachImage (IsLeftBy returning (ReplaceSlot slot) m before c s) c
   cuts c at calm =
-      at_moment {P = LeavesAt} (leaves_by answer (point m x.told) (point last y.told) p.does refl refl) at (calm_begun c calm)
+      at_moment {P = LeavesAt} (leaves_by answer (snapshot m x.told) (snapshot last y.told) p.does refl refl) at (calm_begun c calm)

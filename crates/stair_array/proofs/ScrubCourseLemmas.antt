@@ -7,16 +7,16 @@ use Rattle.stair_model.specs.Stripe.{Stripe}
 use Rattle.stair_model.proofs.SetLaws.{cell_count_member}
 use Rattle.stair_rack.specs.Count.{Rose, Rose-kept}
 use Rattle.stair_rack.specs.Sector.{Damaged}
-use Rattle.stair_rack.specs.Telling.{IsReading}
+use Rattle.stair_rack.specs.RackState.{IsReading}
 use Rattle.stair_member.specs.Membership.{IsMembership}
 use Rattle.stair_member.specs.declared.fault.FenceFault.{FenceFault}
 use Rattle.stair_member.specs.declared.fault.FenceFault.TheVariants as fence
 use Rattle.stair_stripes.specs.Gathering.{IsCellOf}
 use Rattle.stair_stripes.specs.declared.gathering.Gathered.{Gathered}
 use Rattle.stair_state.specs.Redoing.{AtRest}
-use Rattle.stair_session.specs.Courses.{Loads, Point, Redoes, point}
-use Rattle.stair_session.specs.Rebuilding.{Rebuild}
-use Rattle.stair_session.specs.Session.{IsArray, IsLiveIn, Remembered}
+use Rattle.stair_invariant.specs.Effects.{Loads, Snapshot, Redoes, snapshot}
+use Rattle.stair_invariant.specs.Rebuilding.{Rebuild}
+use Rattle.stair_invariant.specs.Session.{IsArray, IsLiveIn, Remembered}
 use Rattle.stair_array.specs.Calls.{LoadsStripe, answer_of, refused}
 use Rattle.stair_array.specs.Causes.{HasCause, IsErasedFor}
 use Rattle.stair_array.specs.Machine.{OutOfRange, Refusal, ScrubStripe}
@@ -34,7 +34,7 @@ use Rattle.stair_array.proofs.WriteCauseLemmas.{redo_stops}
 
 -- ITS PARTS
 
-pub scrubbed_part : (t : ℕ) (answer : Result ℕ Refusal) (x z : Point) → Scrubs t answer x z → IsMembership x.member → IsPart 0 x z
+pub scrubbed_part : (t : ℕ) (answer : Result ℕ Refusal) (x z : Snapshot) → Scrubs t answer x z → IsMembership x.member → IsPart 0 x z
 scrubbed_part t _ _ _ (Scrubs.OutOf x past) rules = part_none x rules
 scrubbed_part t _ _ _ (Scrubs.Stops was read gathered fault x y below loads) rules =
     load_part t (IsCellOf x.member.array.geometry) gathered was read (Some fault) x y loads rules
@@ -48,7 +48,7 @@ scrubbed_part t _ _ _ (Scrubs.Rewrote was read into gathered redo refusal x y z 
 
 -- WHO IS LEFT OUT
 
-pub scrubbed_left_out : (t : ℕ) (answer : Result ℕ Refusal) (x z : Point) → Scrubs t answer x z → IsMembership x.member → IsTrue z.told.honest
+pub scrubbed_left_out : (t : ℕ) (answer : Result ℕ Refusal) (x z : Snapshot) → Scrubs t answer x z → IsMembership x.member → IsTrue z.told.honest
     → IsLeftOut x z
 scrubbed_left_out t _ _ _ (Scrubs.OutOf x past) rules honest = λ j call here was gone. absurd (never_answered j call x.told.history was)
 scrubbed_left_out t _ _ _ (Scrubs.Stops was read gathered fault x y below loads) rules honest =
@@ -67,7 +67,7 @@ scrubbed_left_out t _ _ _ (Scrubs.Rewrote was read into gathered redo refusal x 
 
 -- WHY IT IS REFUSED
 
-module _ (rebuild : Option Rebuild) (known : Option Remembered) (t : ℕ) (x z : Point) where
+module _ (rebuild : Option Rebuild) (known : Option Remembered) (t : ℕ) (x z : Snapshot) where
   abbrev Caused : Refusal → Type 0
   Caused why = HasCause (ScrubStripe t) why (running x.member rebuild known) z.member x.told z.told
 
@@ -79,7 +79,7 @@ module _ (rebuild : Option Rebuild) (known : Option Remembered) (t : ℕ) (x z :
   unloaded_caused why (Unloaded.ByEpoch fault same stops) = subst Caused (sym same) (stops_caused fault stops)
   unloaded_caused why (Unloaded.ByPattern counts same is) = subst Caused (sym same) (refl, is)
 
-pub scrubbed_caused : (rebuild : Option Rebuild) (known : Option Remembered) (t : ℕ) (answer : Result ℕ Refusal) (x z : Point) → Scrubs t answer x z → IsMembership x.member
+pub scrubbed_caused : (rebuild : Option Rebuild) (known : Option Remembered) (t : ℕ) (answer : Result ℕ Refusal) (x z : Snapshot) → Scrubs t answer x z → IsMembership x.member
     → (why : Refusal) → answer ≡ Err why → HasCause (ScrubStripe t) why (running x.member rebuild known) z.member x.told z.told
 scrubbed_caused rebuild known t _ _ _ (Scrubs.OutOf x past) rules why same =
     let by : OutOfRange t x.member.array.geometry.stripes ≡ why = cc in
@@ -113,7 +113,7 @@ scrubbed_caused rebuild known t _ _ _ (Scrubs.Rewrote was read into gathered red
 
 -- WHAT IT ANSWERS
 
-pub scrubbed_below : (t : ℕ) (answer : Result ℕ Refusal) (x z : Point) → Scrubs t answer x z → (count : ℕ) → answer ≡ Ok count
+pub scrubbed_below : (t : ℕ) (answer : Result ℕ Refusal) (x z : Snapshot) → Scrubs t answer x z → (count : ℕ) → answer ≡ Ok count
     → t < x.member.array.geometry.stripes
 scrubbed_below t _ _ _ (Scrubs.OutOf x past) count same = absurd (cc)
 scrubbed_below t _ _ _ (Scrubs.Stops was read gathered fault x y below loads) count same = below
@@ -122,7 +122,7 @@ scrubbed_below t _ _ _ (Scrubs.Unrestored was read into gathered refusal x y bel
 scrubbed_below t _ _ _ (Scrubs.Rewrote was read into gathered redo refusal x y z below loads is of_stripe formed on_live run) count same = below
 
 -- a cell that is erased on a slot that is live after the gathering read as bad
-module _ (t : ℕ) (gathered : Gathered) (was read : Stripe) (x y : Point)
+module _ (t : ℕ) (gathered : Gathered) (was read : Stripe) (x y : Snapshot)
     (loads : Loads t (IsCellOf x.member.array.geometry) gathered was read None x y) (rules : IsMembership x.member) where
   pub read_bad : (i j : ℕ) → HasCell gathered.erased i j → IsLiveIn y.member j
       → IsReading j (cell_sector x.member.array.geometry t i) x.told y.told Damaged
@@ -135,7 +135,7 @@ module _ (t : ℕ) (gathered : Gathered) (was read : Stripe) (x y : Point)
       by (IsErasedFor.SlotGone was_gone dead) = absurd (dead live)
       by (IsErasedFor.ReadBad bad) = bad
 
-pub scrubbed_counted : (t : ℕ) (answer : Result ℕ Refusal) (x z : Point) → Scrubs t answer x z → IsMembership x.member → (count : ℕ)
+pub scrubbed_counted : (t : ℕ) (answer : Result ℕ Refusal) (x z : Snapshot) → Scrubs t answer x z → IsMembership x.member → (count : ℕ)
     → answer ≡ Ok count → 0 < count → Rose x.told.bads z.told.bads
 scrubbed_counted t _ _ _ (Scrubs.OutOf x past) rules count same some = absurd (cc)
 scrubbed_counted t _ _ _ (Scrubs.Stops was read gathered fault x y below loads) rules count same some = absurd (cc)
@@ -157,14 +157,14 @@ scrubbed_counted t _ _ _ (Scrubs.Rewrote was read into gathered redo refusal x y
 
 -- WHAT STANDS
 
-pub scrubbed_array : (t : ℕ) (answer : Result ℕ Refusal) (x z : Point) → Scrubs t answer x z → ¬ Stops answer → IsArray (unopened x.member)
+pub scrubbed_array : (t : ℕ) (answer : Result ℕ Refusal) (x z : Snapshot) → Scrubs t answer x z → ¬ Stops answer → IsArray (unopened x.member)
     → IsArray (unopened z.member)
 scrubbed_array t _ _ _ (Scrubs.OutOf x past) going array = array
 scrubbed_array t _ _ _ (Scrubs.Stops was read gathered fault x y below loads) going array = absurd (going (final_refused fault))
 scrubbed_array t _ _ _ (Scrubs.Sound was read gathered x y below loads sound) going array =
-    left_array gathered.gone None (point x.member loads.mid) y loads.leaves refl array
+    left_array gathered.gone None (snapshot x.member loads.mid) y loads.leaves refl array
 scrubbed_array t _ _ _ (Scrubs.Unrestored was read into gathered refusal x y below loads is) going array =
-    left_array gathered.gone None (point x.member loads.mid) y loads.leaves refl array
+    left_array gathered.gone None (snapshot x.member loads.mid) y loads.leaves refl array
 scrubbed_array t _ _ _ (Scrubs.Rewrote was read into gathered redo refusal x y z below loads is of_stripe formed on_live run) going array =
     redo_array x.member.array.geometry redo into AtRest refusal y z run (goes_on (cell_count redo.cells) refusal going)
-    (left_array gathered.gone None (point x.member loads.mid) y loads.leaves refl array)
+    (left_array gathered.gone None (snapshot x.member loads.mid) y loads.leaves refl array)

@@ -11,10 +11,10 @@ use Rattle.stair_member.specs.declared.fault.FenceFault.TheVariants as fence
 use Rattle.stair_member.specs.declared.why.Why.{Why}
 use Rattle.stair_state.specs.Blocks.{Codewords}
 use Rattle.stair_state.specs.State.{Content, State}
-use Rattle.stair_session.specs.Courses.{Point, point}
-use Rattle.stair_session.specs.Rebuilding.{Rebuild}
-use Rattle.stair_session.specs.Returning.{IsCalm, Returning}
-use Rattle.stair_session.proofs.Serving.{LeadsReads, LeadsRedos, IsCalmTo}
+use Rattle.stair_invariant.specs.Effects.{Snapshot, snapshot}
+use Rattle.stair_invariant.specs.Rebuilding.{Rebuild}
+use Rattle.stair_invariant.specs.Returning.{StaysWithinTolerance, Returning}
+use Rattle.stair_invariant.proofs.Serving.{LeadsReads, LeadsRedos, StaysWithinToleranceTo}
 use Rattle.stair_array.specs.Calls.{LoadsStripe, answer_of, refused}
 use Rattle.stair_array.specs.Machine.{Answer, Refusal, ScrubStripe}
 use Rattle.stair_array.specs.Mends.{Scrubs}
@@ -31,9 +31,9 @@ use Rattle.stair_array.proofs.ScrubStepLemmas.{begins, calm_begun, cuts, leads, 
 
 module _ (returning : Returning) (laws : LeadsReads returning) (redos : LeadsRedos returning) (before : List Happening) (rebuild : Option Rebuild)
     (stopped : Option FenceFault) (words : Codewords) (kept : Content) (t : ℕ) where
-  pub only_spent : (answer : Result ℕ Refusal) (x z : Point) → Scrubs t answer x z
+  pub only_spent : (answer : Result ℕ Refusal) (x z : Snapshot) → Scrubs t answer x z
       → Serves returning before rebuild stopped words kept x x.told.history → IsTrue z.told.honest
-      → IsCalmTo returning x.member.array.geometry before z.told.history → t < x.member.array.geometry.stripes → (refusal : Refusal)
+      → StaysWithinToleranceTo returning x.member.array.geometry before z.told.history → t < x.member.array.geometry.stripes → (refusal : Refusal)
       → answer ≡ Err refusal → refusal ≡ refused fence.EpochsSpent
   only_spent _ _ _ (Scrubs.OutOf x past) is honest calm inside refusal same = absurd (omega (arith, inside, past))
   only_spent _ _ _ (Scrubs.Stops was read gathered fault x y below loads) is honest calm inside refusal same =
@@ -77,12 +77,12 @@ module _ (returning : Returning) (laws : LeadsReads returning) (redos : LeadsRed
     (events : List Event) (x y : Seen) (p : Performs (ScrubStripe t) answer events x y)
     (honest : IsTrue y.told.honest) (before : List Happening) (s : State) (history : IsHistory x.told.history)
     (state : IsInState returning before s x)
-    (calm : IsCalm returning s.geometry (is_open x.session) before y.told.history) where
+    (calm : StaysWithinTolerance returning s.geometry (is_open x.session) before y.told.history) where
   pub none_refused : t < s.geometry.stripes → (refusal : Refusal) → answer ≡ Err refusal → refusal ≡ refused fence.EpochsSpent
   none_refused below refusal same =
       only_spent returning laws redos before p.was.rebuild p.was.stopped (begins returning laws redos t answer events x y p honest before s history
       state).words s.content t answer
-      (point p.was.member x.told) (point p.is.member y.told) p.does
+      (snapshot p.was.member x.told) (snapshot p.is.member y.told) p.does
       (serves returning laws redos t answer events x y p honest before s history state) honest
       (calm_begun returning laws redos t answer events x y p honest before s history state y.told.history calm)
       (subst (λ (g : Geometry). t < g.stripes) (sym (begins returning laws redos t answer events x y p honest before s history state).geometry) below)

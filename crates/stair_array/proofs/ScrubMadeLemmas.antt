@@ -23,8 +23,8 @@ use Rattle.stair_stripes.specs.Placing.{cell_writes}
 use Rattle.stair_stripes.specs.declared.gathering.Gathered.{Gathered}
 use Rattle.stair_stripes.proofs.PlacingLemmas.{cell_writes_cell}
 use Rattle.stair_state.specs.Redoing.{AtRest, Done, InPlace, Placing, Stage, Uncommitted, next}
-use Rattle.stair_session.specs.Courses.{DoesStage, IsOver, Loads, Point, Redoes, TakePart, point, stage_writes}
-use Rattle.stair_session.specs.Session.{IsLiveIn}
+use Rattle.stair_invariant.specs.Effects.{DoesStage, IsOver, Loads, Snapshot, Redoes, TakePart, snapshot, stage_writes}
+use Rattle.stair_invariant.specs.Session.{IsLiveIn}
 use Rattle.stair_array.specs.Calls.{answer_of}
 use Rattle.stair_array.specs.Machine.{Refusal}
 use Rattle.stair_array.specs.Mends.{Scrubs}
@@ -55,29 +55,29 @@ IsToPlace Done = ⊥
 
 -- a cell of it, on a slot that is live in the end
 module _ (g : Geometry) (redo : Redo) (stripe : Stripe) (i j : ℕ) (has : HasCell redo.cells i j) where
-  abbrev Lands : Point → Point → Type 0
+  abbrev Lands : Snapshot → Snapshot → Type 0
   Lands x y = Landed x.told.history y.told.history j (cell_sector g redo.stripe i) (cell stripe i j)
 
-  lands_wider : (x y z w : Point) → IsAfter x.told y.told → IsAfter z.told w.told → IsTrue w.told.honest → IsTrue y.told.honest → Lands y z
+  lands_wider : (x y z w : Snapshot) → IsAfter x.told y.told → IsAfter z.told w.told → IsTrue w.told.honest → IsTrue y.told.honest → Lands y z
       → Lands x w
   lands_wider x y z w before after honest honest_y landed =
       at_some_wider {a = any_call} {b = any_call} {P = λ h. content ((slot_state h j).sector (cell_sector g redo.stripe i)) ≡ Good (cell stripe i j)}
       (before.later.ran honest_y) (after.later.ran honest) landed
 
-  placing_lands : (to : Slots) (x y : Point) → TakePart x.member to → DoesStage (cell_writes g redo stripe) to None x y → IsTrue y.told.honest
+  placing_lands : (to : Slots) (x y : Snapshot) → TakePart x.member to → DoesStage (cell_writes g redo stripe) to None x y → IsTrue y.told.honest
       → IsLiveIn y.member j → Lands x y
   placing_lands to x y over does honest live =
-      let after = out_after does.gone None (point x.member does.mid) y does.leaves in
+      let after = out_after does.gone None (snapshot x.member does.mid) y does.leaves in
       let honest_mid = honest_before does.mid y.told after honest in
-      let live_then = left_live does.gone (point x.member does.mid) y j does.leaves live in
+      let live_then = left_live does.gone (snapshot x.member does.mid) y j does.leaves live in
       let on : HasSlot to j = (over.are j).1 (record { below = live_then.below; why = inl live_then.why }) in
       at_some_wider {a = any_call} {b = any_call} {P = λ h. content ((slot_state h j).sector (cell_sector g redo.stripe i)) ≡ Good (cell stripe i j)}
       (ran_none {allowed = any_call} x.told.history) (after.later.ran honest)
       ((does.phase.placed honest_mid).landed j (cell_sector g redo.stripe i) (cell stripe i j) on
-      (left_not does.gone (point x.member does.mid) y j does.leaves live) (cell_writes_cell g redo stripe j i has))
+      (left_not does.gone (snapshot x.member does.mid) y j does.leaves live) (cell_writes_cell g redo stripe j i has))
 
   -- in the stage that places it, or after it
-  stage_lands : (stage : Stage) (to : Slots) (x y z : Point) → IsToPlace stage → IsOver stage x.member to
+  stage_lands : (stage : Stage) (to : Slots) (x y z : Snapshot) → IsToPlace stage → IsOver stage x.member to
       → DoesStage (stage_writes g redo stripe stage) to None x y → IsAfter x.told y.told → IsAfter y.told z.told → IsTrue z.told.honest
       → IsLiveIn y.member j → (IsToPlace (next stage) → Lands y z) → Lands x z
   stage_lands AtRest to x y z to_place over does first second honest live rest =
@@ -91,7 +91,7 @@ module _ (g : Geometry) (redo : Redo) (stripe : Stripe) (i j : ℕ) (has : HasCe
   stage_lands InPlace to x y z to_place over does first second honest live rest = absurd to_place
   stage_lands Done to x y z to_place over does first second honest live rest = absurd to_place
 
-  redo_lands : (stage : Stage) (refusal : Option FenceFault) (x z : Point) → Redoes g redo stripe stage refusal x z → refusal ≡ None
+  redo_lands : (stage : Stage) (refusal : Option FenceFault) (x z : Snapshot) → Redoes g redo stripe stage refusal x z → refusal ≡ None
       → IsToPlace stage → IsMembership x.member → g ≡ x.member.array.geometry → IsRedo g redo → IsTrue z.told.honest → IsLiveIn z.member j → Lands x z
   redo_lands _ _ _ _ (Redoes.Ends x) fine to_place rules same formed honest live = absurd to_place
   redo_lands _ _ _ _ (Redoes.Stops stage to fault x y not_done over does) fine to_place rules same formed honest live =
@@ -106,11 +106,11 @@ module _ (g : Geometry) (redo : Redo) (stripe : Stripe) (i j : ℕ) (has : HasCe
 -- CELLS THAT WERE READ
 
 -- a cell that isn't erased on a slot that is live after the gathering
-module _ (t : ℕ) (gathered : Gathered) (was read : Stripe) (x y : Point)
+module _ (t : ℕ) (gathered : Gathered) (was read : Stripe) (x y : Snapshot)
     (loads : Loads t (IsCellOf x.member.array.geometry) gathered was read None x y) (honest : IsTrue y.told.honest) (i j : ℕ)
     (row : i < x.member.array.geometry.r) (slot : j < x.member.array.geometry.n) where
   to_end : IsAfter loads.mid y.told
-  to_end = out_after gathered.gone None (point x.member loads.mid) y loads.leaves
+  to_end = out_after gathered.gone None (snapshot x.member loads.mid) y loads.leaves
 
   read_sound : ¬ HasCell gathered.erased i j → WasSound j (cell_sector x.member.array.geometry t i) x.told y.told
   read_sound kept =
@@ -124,7 +124,7 @@ module _ (t : ℕ) (gathered : Gathered) (was read : Stripe) (x y : Point)
 -- ALL CELLS
 
 -- by the member at first, which has the array's geometry
-scrubbed_sound : (t : ℕ) (answer : Result ℕ Refusal) (x z : Point) → Scrubs t answer x z → IsMembership x.member → (count : ℕ)
+scrubbed_sound : (t : ℕ) (answer : Result ℕ Refusal) (x z : Snapshot) → Scrubs t answer x z → IsMembership x.member → (count : ℕ)
     → answer ≡ Ok count → IsTrue z.told.honest → (i j : ℕ) → i < x.member.array.geometry.r → j < x.member.array.geometry.n → IsLiveIn z.member j
     → WasSound j (cell_sector x.member.array.geometry t i) x.told z.told
 scrubbed_sound t _ _ _ (Scrubs.OutOf x past) rules count same honest i j row slot live = absurd (cc)
@@ -164,7 +164,7 @@ scrubbed_sound t _ _ _ (Scrubs.Rewrote was read into gathered redo refusal x y z
               (read_sound t gathered was read x y loads honest_y i j row slot (λ has. false≢true (sym kept ∙ has)))
         ]
 
-pub scrubbed_made : (t : ℕ) (answer : Result ℕ Refusal) (x z : Point) → Scrubs t answer x z → IsMembership x.member → (count : ℕ)
+pub scrubbed_made : (t : ℕ) (answer : Result ℕ Refusal) (x z : Snapshot) → Scrubs t answer x z → IsMembership x.member → (count : ℕ)
     → answer ≡ Ok count → IsTrue z.told.honest → (i j : ℕ) → i < z.member.array.geometry.r → IsLiveIn z.member j
     → WasSound j (cell_sector z.member.array.geometry t i) x.told z.told
 scrubbed_made t answer x z does rules count same honest i j row live =

@@ -15,12 +15,12 @@ use Rattle.stair_stripes.specs.declared.gathering.Gathered.{Gathered}
 use Rattle.stair_state.specs.Blocks.{Codewords}
 use Rattle.stair_state.specs.Redoing.{AtRest}
 use Rattle.stair_state.specs.State.{Content}
-use Rattle.stair_session.specs.Courses.{Loads, Point, Redoes}
-use Rattle.stair_session.specs.Rebuilding.{Rebuild}
-use Rattle.stair_session.specs.Returning.{Returning}
-use Rattle.stair_session.proofs.HonestLemmas.{honest_first}
-use Rattle.stair_session.proofs.Serving.{IsGoing, LeadsReads, IsCalmTo, LeadsRedos}
-use Rattle.stair_session.proofs.Mending.{calm_going}
+use Rattle.stair_invariant.specs.Effects.{Loads, Snapshot, Redoes}
+use Rattle.stair_invariant.specs.Rebuilding.{Rebuild}
+use Rattle.stair_invariant.specs.Returning.{Returning}
+use Rattle.stair_invariant.proofs.HonestLemmas.{honest_first}
+use Rattle.stair_invariant.proofs.Serving.{IsGoing, LeadsReads, StaysWithinToleranceTo, LeadsRedos}
+use Rattle.stair_invariant.proofs.Mending.{calm_going}
 use Rattle.stair_array.specs.Calls.{IsLoaded, answer_of}
 use Rattle.stair_array.specs.Machine.{IsFinal, Refusal}
 use Rattle.stair_array.specs.Mends.{Scrubs}
@@ -33,7 +33,7 @@ use Rattle.stair_array.proofs.RedoDoubtLemmas as redo_doubt
 use Rattle.stair_array.proofs.ServingLemmas.{going_sooner}
 
 -- what is asked of a stripe before it is scrubbed, and nothing of how many cells were written
-abbrev pub IsInside : ℕ → Point → Type 0
+abbrev pub IsInside : ℕ → Snapshot → Type 0
 IsInside t x = t < x.member.array.geometry.stripes
 
 abbrev pub AnyCount : ℕ → Type 0
@@ -41,13 +41,13 @@ AnyCount count = ⊤
 
 module _ (returning : Returning) (laws : LeadsReads returning) (before : List Happening) (rebuild : Option Rebuild) (stopped : Option FenceFault)
     (words : Codewords) (kept : Content) (t : ℕ) where
-  abbrev pub ScrubOutcome : Point → Result ℕ Refusal → Point → Type 0
+  abbrev pub ScrubOutcome : Snapshot → Result ℕ Refusal → Snapshot → Type 0
   ScrubOutcome x answer y = Outcome returning before rebuild stopped words kept x ℕ (IsInside t x) AnyCount answer y
 
-  abbrev ServesAt : Point → List Happening → Type 0
+  abbrev ServesAt : Snapshot → List Happening → Type 0
   ServesAt x h = Serves returning before rebuild stopped words kept x h
 
-  abbrev loaded_all : (was read : Stripe) (gathered : Gathered) (refusal : Option FenceFault) (x y : Point)
+  abbrev loaded_all : (was read : Stripe) (gathered : Gathered) (refusal : Option FenceFault) (x y : Snapshot)
       → Loads t (IsCellOf x.member.array.geometry) gathered was read refusal x y
       → HasLoaded t (IsCellOf x.member.array.geometry) gathered read refusal x y
   loaded_all was read gathered refusal x y loads = whole_loaded t gathered was read refusal x x y (none_asked x) loads
@@ -55,7 +55,7 @@ module _ (returning : Returning) (laws : LeadsReads returning) (before : List Ha
   -- WHAT WAS REWRITTEN
 
   -- The redo leads from the stripes to the same ones, since what was restored is the stripe.
-  module _ (was read into : Stripe) (gathered : Gathered) (redo : Redo) (refusal : Option FenceFault) (x y z : Point)
+  module _ (was read into : Stripe) (gathered : Gathered) (redo : Redo) (refusal : Option FenceFault) (x y z : Snapshot)
       (is : ServesAt x x.told.history)
       (below : t < x.member.array.geometry.stripes) (loads : Loads t (IsCellOf x.member.array.geometry) gathered was read None x y)
       (loaded : IsLoaded x.member.array.geometry t gathered.erased read into (Ok tt)) (here : redo.stripe ≡ t)
@@ -77,7 +77,7 @@ module _ (returning : Returning) (laws : LeadsReads returning) (before : List Ha
     ran_to : (c : List Happening) → IsMoment y.told.history c z.told.history → Ran any_call before c
     ran_to c at = ran_join {allowed = any_call} upto (ran_before {allowed = any_call} later at)
 
-    pub going_at : (c : List Happening) → IsMoment y.told.history c z.told.history → IsCalmTo returning x.member.array.geometry before c
+    pub going_at : (c : List Happening) → IsMoment y.told.history c z.told.history → StaysWithinToleranceTo returning x.member.array.geometry before c
         → IsGoing returning x.member.array.geometry before c
     going_at c at calm = calm_going returning x.member.array.geometry before c (ran_to c at) calm
 
@@ -129,7 +129,7 @@ module _ (returning : Returning) (laws : LeadsReads returning) (before : List Ha
   -- ALL OF IT
 
   module _ (redos : LeadsRedos returning) where
-    pub moments : (answer : Result ℕ Refusal) (x z : Point) → Scrubs t answer x z → ServesAt x x.told.history → IsTrue z.told.honest
+    pub moments : (answer : Result ℕ Refusal) (x z : Snapshot) → Scrubs t answer x z → ServesAt x x.told.history → IsTrue z.told.honest
         → AtEveryMoment (StandsAt returning before x.member kept) x.told.history z.told.history
     moments _ _ _ (Scrubs.OutOf x past) is honest =
         at_every_none {P = StandsAt returning before x.member kept} x.told.history
@@ -146,8 +146,8 @@ module _ (returning : Returning) (laws : LeadsReads returning) (before : List Ha
     moments _ _ _ (Scrubs.Rewrote was read into gathered redo refusal x y z below loads loaded here formed cells run) is honest =
         rewrote_moments was read into gathered redo refusal x y z is below loads loaded here formed run honest redos
 
-    pub outcome : (answer : Result ℕ Refusal) (x z : Point) → Scrubs t answer x z → ServesAt x x.told.history → IsTrue z.told.honest
-        → IsCalmTo returning x.member.array.geometry before z.told.history → ScrubOutcome x answer z
+    pub outcome : (answer : Result ℕ Refusal) (x z : Snapshot) → Scrubs t answer x z → ServesAt x x.told.history → IsTrue z.told.honest
+        → StaysWithinToleranceTo returning x.member.array.geometry before z.told.history → ScrubOutcome x answer z
     outcome _ _ _ (Scrubs.OutOf x past) is honest calm =
         Lacks _ x
         (same_serves returning laws before rebuild stopped words kept x x refl honest is

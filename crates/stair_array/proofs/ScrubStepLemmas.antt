@@ -8,10 +8,10 @@ use Rattle.stair_rack.specs.Crash.{EachImage}
 use Rattle.stair_rack.specs.History.{Happening}
 use Rattle.stair_rack.specs.Moments.{IsMoment}
 use Rattle.stair_rack.specs.declared.watcher.Event.{Event}
-use Rattle.stair_session.specs.Courses.{point}
-use Rattle.stair_session.specs.Returning.{IsCalm, Returning}
+use Rattle.stair_invariant.specs.Effects.{snapshot}
+use Rattle.stair_invariant.specs.Returning.{StaysWithinTolerance, Returning}
 use Rattle.stair_state.specs.State.{State}
-use Rattle.stair_session.proofs.Serving.{IsServing, LeadsReads, LeadsRedos, IsCalmTo}
+use Rattle.stair_invariant.proofs.Serving.{IsServing, LeadsReads, LeadsRedos, StaysWithinToleranceTo}
 use Rattle.stair_array.specs.Machine.{Answer, ScrubStripe}
 use Rattle.stair_array.specs.Promise.{IsInState, IsLed, IsLeftBy, IsOpenFor, Performs, Seen, is_open}
 use Rattle.stair_array.proofs.KeptStepLemmas as kept
@@ -40,23 +40,23 @@ module _ (returning : Returning) (laws : LeadsReads returning) (redos : LeadsRed
   abbrev pub serves : IsServing returning before (forgetting p.was) begins.words s.content x.told.history
   serves = kept.serves returning laws (ScrubStripe t) (keeping t) answer events x y p before s history state
 
-  pub calm_begun : (h : List Happening) → IsCalm returning s.geometry (is_open x.session) before h
-      → IsCalmTo returning p.was.member.array.geometry before h
+  pub calm_begun : (h : List Happening) → StaysWithinTolerance returning s.geometry (is_open x.session) before h
+      → StaysWithinToleranceTo returning p.was.member.array.geometry before h
   calm_begun = kept.calm_begun returning laws (ScrubStripe t) (keeping t) answer events x y p before s history state
 
-  pub leads : IsCalm returning s.geometry (is_open x.session) before y.told.history → IsLed returning p.was.member before s (ScrubStripe t) answer y
+  pub leads : StaysWithinTolerance returning s.geometry (is_open x.session) before y.told.history → IsLed returning p.was.member before s (ScrubStripe t) answer y
   leads calm =
-      kept.led returning laws (ScrubStripe t) (keeping t) answer events x y p before s history state (IsInside t (point p.was.member x.told)) AnyCount
+      kept.led returning laws (ScrubStripe t) (keeping t) answer events x y p before s history state (IsInside t (snapshot p.was.member x.told)) AnyCount
       (λ inside. subst (λ (g : Geometry). t < g.stripes) begins.geometry inside)
-      (λ count now so was. record { content = was.content; in_doubt = was.in_doubt ∙ begins.certain }) answer (point p.is.member y.told) refl refl
-      (outcome returning laws before p.was.rebuild p.was.stopped begins.words s.content t redos answer (point p.was.member x.told)
-      (point p.is.member y.told) p.does
+      (λ count now so was. record { content = was.content; in_doubt = was.in_doubt ∙ begins.certain }) answer (snapshot p.is.member y.told) refl refl
+      (outcome returning laws before p.was.rebuild p.was.stopped begins.words s.content t redos answer (snapshot p.was.member x.told)
+      (snapshot p.is.member y.told) p.does
       serves honest (calm_begun y.told.history calm)) (forgotten_in begins.words p.is.remembered p.remembers) (calm_begun y.told.history calm)
 
-  pub cuts : (c : List Happening) → IsMoment x.told.history c y.told.history → IsCalm returning s.geometry (is_open x.session) before c
+  pub cuts : (c : List Happening) → IsMoment x.told.history c y.told.history → StaysWithinTolerance returning s.geometry (is_open x.session) before c
       → EachImage (IsLeftBy returning (ScrubStripe t) p.was.member before c s) c
   cuts =
       kept.cuts returning laws (ScrubStripe t) (keeping t) answer events x y p before s history state
-      (moments returning laws before p.was.rebuild p.was.stopped begins.words s.content t redos answer (point p.was.member x.told)
-      (point p.is.member y.told) p.does
+      (moments returning laws before p.was.rebuild p.was.stopped begins.words s.content t redos answer (snapshot p.was.member x.told)
+      (snapshot p.is.member y.told) p.does
       serves honest)

@@ -16,8 +16,8 @@ use Rattle.stair_state.specs.Tolerance.{IsTolerated, IsToleratedAlone}
 use Rattle.stair_state.proofs.AgreeLemmas.{current_agree}
 use Rattle.stair_state.proofs.OutsideLemmas.{tolerated_alone}
 use Rattle.stair_state.proofs.StillLemmas.{steady_cells}
-use Rattle.stair_session.specs.InSession.{state_with}
-use Rattle.stair_session.proofs.EachAloneLemmas.{each_alone}
+use Rattle.stair_invariant.specs.InSession.{state_with}
+use Rattle.stair_invariant.proofs.EachAloneLemmas.{each_alone}
 
 module _ (m : Membership) (content : Content) (doubt : Option Change) (before h : List Happening) (limits : IsWithinLimits m.array.geometry)
     (history : IsHistory h) (tolerated : IsTolerated m.array.geometry before h) (steady : AreSteady m.array.geometry h)

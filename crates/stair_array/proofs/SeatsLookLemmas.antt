@@ -5,21 +5,21 @@ use Rattle.stair_rack.specs.Answers.{IsHistory, Ran, any_call}
 use Rattle.stair_rack.specs.Crash.{EachImage}
 use Rattle.stair_rack.specs.History.{Happening}
 use Rattle.stair_rack.specs.Moments.{AtEveryMoment, IsMoment}
-use Rattle.stair_rack.specs.Telling.{Telling}
+use Rattle.stair_rack.specs.RackState.{RackState}
 use Rattle.stair_rack.specs.declared.watcher.Event.{Event}
 use Rattle.stair_rack.proofs.MomentLemmas.{at_every_none, at_moment}
-use Rattle.stair_rack.proofs.TellingLemmas.{later_none}
+use Rattle.stair_rack.proofs.RackStateLemmas.{later_none}
 use Rattle.stair_member.specs.Membership.{Membership}
 use Rattle.stair_member.specs.Seats.{Seats}
 use Rattle.stair_state.specs.State.{State}
-use Rattle.stair_session.specs.Courses.{Point, point}
-use Rattle.stair_session.specs.InSession.{state_with}
-use Rattle.stair_session.specs.Leading.{led_to}
-use Rattle.stair_session.specs.Rebuilding.{Rebuild}
-use Rattle.stair_session.specs.Returning.{IsCalm, Returning}
-use Rattle.stair_session.specs.Session.{IsArray, IsRememberedIn, Remembered, seats_in}
-use Rattle.stair_session.proofs.Serving.{IsCalmTo, IsServing, LeadsReads}
-use Rattle.stair_session.proofs.Mending.{calm_going}
+use Rattle.stair_invariant.specs.Effects.{Snapshot, snapshot}
+use Rattle.stair_invariant.specs.InSession.{state_with}
+use Rattle.stair_invariant.specs.Leading.{led_to}
+use Rattle.stair_invariant.specs.Rebuilding.{Rebuild}
+use Rattle.stair_invariant.specs.Returning.{StaysWithinTolerance, Returning}
+use Rattle.stair_invariant.specs.Session.{IsArray, IsRememberedIn, Remembered, seats_in}
+use Rattle.stair_invariant.proofs.Serving.{StaysWithinToleranceTo, IsServing, LeadsReads}
+use Rattle.stair_invariant.proofs.Mending.{calm_going}
 use Rattle.stair_array.specs.Causes.{IsAllowed}
 use Rattle.stair_array.specs.Events.{events_of}
 use Rattle.stair_array.specs.Machine.{Answer, LookAtSeats, Recover, Row}
@@ -32,9 +32,9 @@ use Rattle.stair_array.proofs.PartsLemmas.{IsPart, part_none}
 
 -- ON ANY RACK
 
-module _ (m : Membership) (rebuild : Option Rebuild) (known : Option Remembered) (x : Telling) (array : IsArray (running m rebuild known)) where
-  none : IsPart 0 (point m x) (point m x)
-  none = part_none (point m x) array.member
+module _ (m : Membership) (rebuild : Option Rebuild) (known : Option Remembered) (x : RackState) (array : IsArray (running m rebuild known)) where
+  none : IsPart 0 (snapshot m x) (snapshot m x)
+  none = part_none (snapshot m x) array.member
 
   abbrev seen : Seen
   seen = record { told = x; session = Opened (running m rebuild known) }
@@ -48,7 +48,7 @@ module _ (m : Membership) (rebuild : Option Rebuild) (known : Option Remembered)
     later = later_none x;
     goes_on = member_goes_on m m rebuild known None x x array none LookAtSeats;
     rebuild = KeepsProgress.Stays refl (λ r is. (array.rebuilds r is).0);
-    draws_few = draws_few LookAtSeats (point m x) (point m x) none;
+    draws_few = draws_few LookAtSeats (snapshot m x) (snapshot m x) none;
     events_are = refl;
     caused = tt;
     allowed = refl;
@@ -82,15 +82,15 @@ module _ (returning : Returning) (laws : LeadsReads returning) (answer : Answer 
   serves : IsServing returning before (forgetting p.was) begins.words s.content x.told.history
   serves = serves_bare returning laws LookAtSeats no_opening answer events x y p before s state history
 
-  calm_begun : (h : List Happening) → IsCalm returning s.geometry (is_open x.session) before h → IsCalmTo returning m.array.geometry before h
+  calm_begun : (h : List Happening) → StaysWithinTolerance returning s.geometry (is_open x.session) before h → StaysWithinToleranceTo returning m.array.geometry before h
   calm_begun = calm_first returning laws LookAtSeats no_opening answer events x y p before s state
 
   -- nothing was called, and nothing is changed
   same_member : last ≡ m
-  same_member = ap (λ (u : Point). u.member) p.does
+  same_member = ap (λ (u : Snapshot). u.member) p.does
 
   same_told : y.told ≡ x.told
-  same_told = ap (λ (u : Point). u.told) p.does
+  same_told = ap (λ (u : Snapshot). u.told) p.does
 
   -- the seats are answered
   answered : answer ≡ Ok (seats_in m.array)
@@ -112,7 +112,7 @@ module _ (returning : Returning) (laws : LeadsReads returning) (answer : Answer 
     marks = (refl, refl);
   }
 
-  leads : IsCalm returning s.geometry (is_open x.session) before y.told.history → IsLed returning m before s LookAtSeats answer y
+  leads : StaysWithinTolerance returning s.geometry (is_open x.session) before y.told.history → IsLed returning m before s LookAtSeats answer y
   leads calm = record {
     state = state_with last s.content None last.array;
     is_step = record {
@@ -133,13 +133,13 @@ module _ (returning : Returning) (laws : LeadsReads returning) (answer : Answer 
     where
       here : IsServing returning before (led_to p.was m) begins.words s.content y.told.history
       here =
-          same_serves returning laws before p.was.rebuild p.was.stopped begins.words s.content (point m y.told) (point m y.told) refl honest
-          (subst (λ (t : Telling). IsServing returning before (forgetting p.was) begins.words s.content t.history) (sym same_told) serves)
+          same_serves returning laws before p.was.rebuild p.was.stopped begins.words s.content (snapshot m y.told) (snapshot m y.told) refl honest
+          (subst (λ (t : RackState). IsServing returning before (forgetting p.was) begins.words s.content t.history) (sym same_told) serves)
           (calm_going returning m.array.geometry before y.told.history
-          (subst (λ (t : Telling). Ran any_call before t.history) (sym same_told) serves.is_open.ran) (calm_begun y.told.history calm))
+          (subst (λ (t : RackState). Ran any_call before t.history) (sym same_told) serves.is_open.ran) (calm_begun y.told.history calm))
 
   abbrev LeavesAt : List Happening → Type 0
-  LeavesAt c = IsCalmTo returning m.array.geometry before c → EachImage (IsLeftBy returning LookAtSeats m before c s) c
+  LeavesAt c = StaysWithinToleranceTo returning m.array.geometry before c → EachImage (IsLeftBy returning LookAtSeats m before c s) c
 
   at_once : LeavesAt x.told.history
   at_once calm image left =
@@ -155,11 +155,11 @@ module _ (returning : Returning) (laws : LeadsReads returning) (answer : Answer 
             (laws.stands before (forgetting p.was) begins.words s.content x.told.history serves calm) left;
       }
 
-  cuts : (c : List Happening) → IsMoment x.told.history c y.told.history → IsCalm returning s.geometry (is_open x.session) before c
+  cuts : (c : List Happening) → IsMoment x.told.history c y.told.history → StaysWithinTolerance returning s.geometry (is_open x.session) before c
       → EachImage (IsLeftBy returning LookAtSeats m before c s) c
   cuts c at calm =
       at_moment {P = LeavesAt}
-      (subst (λ (t : Telling). AtEveryMoment LeavesAt x.told.history t.history) (sym same_told) (at_every_none {P = LeavesAt} x.told.history at_once)) at
+      (subst (λ (t : RackState). AtEveryMoment LeavesAt x.told.history t.history) (sym same_told) (at_every_none {P = LeavesAt} x.told.history at_once)) at
       (calm_begun c calm)
 
 -- So it is what is promised of a step.

@@ -18,14 +18,14 @@ use Rattle.stair_journal.specs.Body.{Harmed, Holds, IsOrDamaged}
 use Rattle.stair_journal.specs.declared.redo.Redo.{Redo}
 use Rattle.stair_state.specs.Blocks.{Codewords}
 use Rattle.stair_state.specs.State.{Content}
-use Rattle.stair_session.specs.Returning.{AnyReturns, NoneReturns, Returning}
-use Rattle.stair_session.specs.Session.{ArrayState, IsLiveIn, ServesSlot}
-use Rattle.stair_session.proofs.OpenLaws.{goes_on_within}
-use Rattle.stair_session.proofs.Serving.{IsCalmTo, IsGoing, IsServing, LeadsReads, any_read, tolerated_now}
+use Rattle.stair_invariant.specs.Returning.{AnyReturns, NoneReturns, Returning}
+use Rattle.stair_invariant.specs.Session.{ArrayState, IsLiveIn, ServesSlot}
+use Rattle.stair_invariant.proofs.OpenLaws.{goes_on_within}
+use Rattle.stair_invariant.proofs.Serving.{StaysWithinToleranceTo, IsGoing, IsServing, LeadsReads, any_read, tolerated_now}
 
 -- HOW FAR IT GOES ON
 
-pub goes_on : (returning : Returning) (g : Geometry) (before h : List Happening) → Ran any_call before h → IsCalmTo returning g before h
+pub goes_on : (returning : Returning) (g : Geometry) (before h : List Happening) → Ran any_call before h → StaysWithinToleranceTo returning g before h
     → ¬ IsTrue (stopped h)
 goes_on returning g before h ran calm = goes_on_within g before h (tolerated_now returning g before h ran calm)
 

@@ -8,7 +8,7 @@ use Rattle.stair_rack.specs.Answers.{IsHistory, any_call}
 use Rattle.stair_rack.specs.Crash.{EachImage}
 use Rattle.stair_rack.specs.History.{Happening}
 use Rattle.stair_rack.specs.Moments.{IsMoment}
-use Rattle.stair_rack.specs.Telling.{Telling}
+use Rattle.stair_rack.specs.RackState.{RackState}
 use Rattle.stair_rack.specs.declared.watcher.Event.{Event}
 use Rattle.stair_rack.proofs.MomentLemmas.{ran_join}
 use Rattle.stair_super.specs.declared.configuration.Configuration.{Configuration}
@@ -16,21 +16,21 @@ use Rattle.stair_member.specs.Aims.{IsAimed, frozen_then, label_then}
 use Rattle.stair_member.specs.Establishing.{Establishes}
 use Rattle.stair_member.specs.Membership.{Membership}
 use Rattle.stair_member.specs.Seats.{Seats}
-use Rattle.stair_member.specs.declared.aim.Aim.{Aim}
-use Rattle.stair_member.specs.declared.aim.Aim.TheVariants.{Stamp}
+use Rattle.stair_member.specs.declared.aim.EpochChange.{EpochChange}
+use Rattle.stair_member.specs.declared.aim.EpochChange.TheVariants.{Stamp}
 use Rattle.stair_member.specs.declared.fault.FenceFault.{FenceFault}
 use Rattle.stair_member.specs.declared.fault.FenceFault.TheVariants as fence
 use Rattle.stair_state.specs.Blocks.{AreEncodingsOf, Codewords}
 use Rattle.stair_state.specs.State.{Change, Content, FrozenIs, LabelIs, State, changed}
-use Rattle.stair_session.specs.Courses.{Point, point}
-use Rattle.stair_session.specs.InSession.{IsOfContent, state_with}
-use Rattle.stair_session.specs.Returning.{IsCalm, Returning}
-use Rattle.stair_session.specs.SeatSteps.{EachMayDrop}
-use Rattle.stair_session.specs.Session.{ArrayState, Remembered, seats_in}
-use Rattle.stair_session.proofs.SeatLemmas.{listed_member}
-use Rattle.stair_session.proofs.Serving.{IsCalmTo, IsGoing, IsServing, LeadsReads}
-use Rattle.stair_session.proofs.Stamping.{IsPlain, LeadsStamps, plain_drops}
-use Rattle.stair_session.proofs.Mending.{calm_going}
+use Rattle.stair_invariant.specs.Effects.{Snapshot, snapshot}
+use Rattle.stair_invariant.specs.InSession.{IsOfContent, state_with}
+use Rattle.stair_invariant.specs.Returning.{StaysWithinTolerance, Returning}
+use Rattle.stair_invariant.specs.SeatSteps.{EachMayDrop}
+use Rattle.stair_invariant.specs.Session.{ArrayState, Remembered, seats_in}
+use Rattle.stair_invariant.proofs.SeatLemmas.{listed_member}
+use Rattle.stair_invariant.proofs.Serving.{StaysWithinToleranceTo, IsGoing, IsServing, LeadsReads}
+use Rattle.stair_invariant.proofs.Stamping.{IsPlain, LeadsStamps, plain_drops}
+use Rattle.stair_invariant.proofs.Mending.{calm_going}
 use Rattle.stair_array.specs.Calls.{refused}
 use Rattle.stair_array.specs.Causes.{AreSpent, HasCause}
 use Rattle.stair_array.specs.Draws.{most_drawn}
@@ -42,15 +42,15 @@ use Rattle.stair_array.proofs.OpenStepLemmas.{forgotten_in, calm_first, goes_on_
 use Rattle.stair_array.proofs.PerformsLemmas.{final_refused}
 
 -- an epoch for this stands, or was refused
-pub data IsStamped {T : Type 0} (aim : Aim) (x y : Point) : Result T Refusal → Type 0 where
+pub data IsStamped {T : Type 0} (aim : EpochChange) (x y : Snapshot) : Result T Refusal → Type 0 where
   Stood : (given : T) → Establishes aim x.member y.member None x.told y.told → IsStamped aim x y (Ok given)
   Failed : (fault : FenceFault) → Establishes aim x.member y.member (Some fault) x.told y.told → IsStamped aim x y (Err (refused fault))
 
 -- A STEP THAT STAMPS: its epoch changes this of the content, and neither admits nor promotes a slot.
-pub record Stamping (step : Step) (change : Change) (aim : Membership → Aim) : Type 0 where
+pub record Stamping (step : Step) (change : Change) (aim : Membership → EpochChange) : Type 0 where
   pub no_opening : ¬ (step ≡ Recover)
   pub no_replacement : (j : ℕ) → ¬ (step ≡ ReplaceSlot j)
-  pub does : (was : ArrayState) (after : Option Remembered) (answer : Answer step) (x y : Point) → Does step was after answer x y → IsStamped (aim x.member) x y answer
+  pub does : (was : ArrayState) (after : Option Remembered) (answer : Answer step) (x y : Snapshot) → Does step was after answer x y → IsStamped (aim x.member) x y answer
   pub plain : (m : Membership) (words : Codewords) (kept : Content) → IsOfContent m words kept → IsPlain (aim m) m words kept (Some change)
   pub leaves : (m last : Membership) (words : Codewords) (kept : Content) → IsOfContent m words kept → last.array.geometry ≡ m.array.geometry
       → last.array.frozen ≡ frozen_then (aim m) m.array → last.array.label ≡ label_then (aim m) m.array
@@ -65,10 +65,10 @@ pub record Stamping (step : Step) (change : Change) (aim : Membership → Aim) :
   pub marks : (answer : Answer step) (old new : Seats) → EachMayDrop old new → SeatsAfter step answer old new
   pub keeps : (answer : Answer step) (was is : ArrayState) → KeepsRebuild step answer was is → KeepsProgress was is
   pub forgets : (was is : ArrayState) → Remembers step was is → is.remembered ≡ None
-  pub spent : (was : ArrayState) (last : Membership) (old new : Telling) → HasCause step EpochsSpent was last old new → AreSpent last
+  pub spent : (was : ArrayState) (last : Membership) (old new : RackState) → HasCause step EpochsSpent was last old new → AreSpent last
 
 module _ (returning : Returning) (laws : LeadsReads returning) (stamps : LeadsStamps returning) (step : Step) (change : Change)
-    (aim : Membership → Aim) (of_step : Stamping step change aim) (answer : Answer step) (events : List Event) (x y : Seen)
+    (aim : Membership → EpochChange) (of_step : Stamping step change aim) (answer : Answer step) (events : List Event) (x y : Seen)
     (p : Performs step answer events x y) (honest : IsTrue y.told.honest) (before : List Happening) (s : State) (history : IsHistory x.told.history)
     (state : IsInState returning before s x) where
   abbrev m : Membership
@@ -78,7 +78,7 @@ module _ (returning : Returning) (laws : LeadsReads returning) (stamps : LeadsSt
   last = p.is.member
 
   abbrev CalmTo : List Happening → Type 0
-  CalmTo = IsCalmTo returning m.array.geometry before
+  CalmTo = StaysWithinToleranceTo returning m.array.geometry before
 
   abbrev begins : IsOpenFor returning before s p.was x.told.history
   begins = open_first returning laws step of_step.no_opening answer events x y p before s state
@@ -86,7 +86,7 @@ module _ (returning : Returning) (laws : LeadsReads returning) (stamps : LeadsSt
   serves : IsServing returning before p.was begins.words s.content x.told.history
   serves = serves_first returning laws step of_step.no_opening answer events x y p before s state history
 
-  calm_begun : (h : List Happening) → IsCalm returning s.geometry (is_open x.session) before h → CalmTo h
+  calm_begun : (h : List Happening) → StaysWithinTolerance returning s.geometry (is_open x.session) before h → CalmTo h
   calm_begun = calm_first returning laws step of_step.no_opening answer events x y p before s state
 
   plain : IsPlain (aim m) m begins.words s.content (Some change)
@@ -191,28 +191,28 @@ module _ (returning : Returning) (laws : LeadsReads returning) (stamps : LeadsSt
 
   -- WHAT IT DID
 
-  did : IsStamped (aim m) (point m x.told) (point last y.told) answer
-  did = of_step.does p.was p.is.remembered answer (point m x.told) (point last y.told) p.does
+  did : IsStamped (aim m) (snapshot m x.told) (snapshot last y.told) answer
+  did = of_step.does p.was p.is.remembered answer (snapshot m x.told) (snapshot last y.told) p.does
 
-  leads : IsCalm returning s.geometry (is_open x.session) before y.told.history → IsLed returning m before s step answer y
+  leads : StaysWithinTolerance returning s.geometry (is_open x.session) before y.told.history → IsLed returning m before s step answer y
   leads calm = by answer refl did
     where
-      by : (given : Answer step) → answer ≡ given → IsStamped (aim m) (point m x.told) (point last y.told) given
+      by : (given : Answer step) → answer ≡ given → IsStamped (aim m) (snapshot m x.told) (snapshot last y.told) given
           → IsLed returning m before s step answer y
       by _ same (Stood given e) = stood given e same (calm_begun y.told.history calm)
       by _ same (Failed fault e) = failed fault e same (calm_begun y.told.history calm)
 
-  cuts : (c : List Happening) → IsMoment x.told.history c y.told.history → IsCalm returning s.geometry (is_open x.session) before c
+  cuts : (c : List Happening) → IsMoment x.told.history c y.told.history → StaysWithinTolerance returning s.geometry (is_open x.session) before c
       → EachImage (IsLeftBy returning step m before c s) c
   cuts c at calm = by answer did
     where
-      by : (given : Answer step) → IsStamped (aim m) (point m x.told) (point last y.told) given
+      by : (given : Answer step) → IsStamped (aim m) (snapshot m x.told) (snapshot last y.told) given
           → EachImage (IsLeftBy returning step m before c s) c
       by _ (Stood given e) = cut_at None e c at (calm_begun c calm)
       by _ (Failed fault e) = cut_at (Some fault) e c at (calm_begun c calm)
 
   -- it isn't refused for want of slots
-  pub only_spent : IsCalm returning s.geometry (is_open x.session) before y.told.history → (refusal : Refusal) → answer ≡ Err refusal
+  pub only_spent : StaysWithinTolerance returning s.geometry (is_open x.session) before y.told.history → (refusal : Refusal) → answer ≡ Err refusal
       → refusal ≡ EpochsSpent
   only_spent calm refusal same = by answer same did
     where
@@ -223,11 +223,11 @@ module _ (returning : Returning) (laws : LeadsReads returning) (stamps : LeadsSt
           (calm_begun y.told.history calm))
       spent fence.EpochsSpent e is = is
 
-      by : (given : Answer step) → given ≡ Err refusal → IsStamped (aim m) (point m x.told) (point last y.told) given → refusal ≡ EpochsSpent
+      by : (given : Answer step) → given ≡ Err refusal → IsStamped (aim m) (snapshot m x.told) (snapshot last y.told) given → refusal ≡ EpochsSpent
       by _ is (Stood given e) = absurd (cc)
       by _ is (Failed fault e) = spent fault e (let one : refused fault ≡ refusal = cc in sym one)
 
-  complete : IsCalm returning s.geometry (is_open x.session) before y.told.history
+  complete : StaysWithinTolerance returning s.geometry (is_open x.session) before y.told.history
       → CanBeDone step s m x.told.history y.told.history → IsOk answer
   complete calm can = by answer refl
     where
@@ -249,7 +249,7 @@ module _ (returning : Returning) (laws : LeadsReads returning) (stamps : LeadsSt
           (subst (λ (r : Answer step). IfErr r (λ why. HasCause step why p.was last x.told y.told)) at p.caused)))
 
 -- So it is what is promised of a step.
-pub stamp_leads : (returning : Returning) → LeadsReads returning → LeadsStamps returning → (step : Step) (change : Change) (aim : Membership → Aim)
+pub stamp_leads : (returning : Returning) → LeadsReads returning → LeadsStamps returning → (step : Step) (change : Change) (aim : Membership → EpochChange)
     → Stamping step change aim → (answer : Answer step) (events : List Event) (x y : Seen) (p : Performs step answer events x y)
     → LeadsStep returning p.was.member step answer x y
 stamp_leads returning laws stamps step change aim of_step answer events x y p = record {
@@ -263,7 +263,7 @@ stamp_leads returning laws stamps step change aim of_step answer events x y p = 
 
 -- THE TWO
 
-stamped : (frozen : Bool) (label : List ℕ) (answer : Result (Unit {0}) Refusal) (x y : Point) → StampsAs frozen label answer x y
+stamped : (frozen : Bool) (label : List ℕ) (answer : Result (Unit {0}) Refusal) (x y : Snapshot) → StampsAs frozen label answer x y
     → IsStamped (Stamp frozen label) x y answer
 stamped frozen label _ _ _ (Stamped (Ok fallen) x y does) = Stood tt does.establishes
 stamped frozen label _ _ _ (Stamped (Err fault) x y does) = Failed fault does.establishes

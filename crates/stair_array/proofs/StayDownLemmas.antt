@@ -4,7 +4,7 @@ use Rattle.std.specs.Prelude.{◌⊎◌, Result, slice_index_or}
 use Rattle.std.proofs.lemmas.Bool.{cases_eq, cases_lt, cond-false, ne_eqb}
 use Rattle.std.proofs.lemmas.List.{get_or_past}
 use Rattle.stair_model.specs.Geometry.{Geometry}
-use Rattle.stair_rack.specs.Telling.{Telling}
+use Rattle.stair_rack.specs.RackState.{RackState}
 use Rattle.stair_rack.specs.declared.rack.Reply.{Reply}
 use Rattle.stair_rack.specs.declared.rack.Reply.TheVariants as reply
 use Rattle.stair_super.specs.Superblock.{mark_in}
@@ -14,12 +14,12 @@ use Rattle.stair_super.specs.declared.mark.Mark.TheVariants as mark
 use Rattle.stair_member.specs.Aims.{aimed, mark_for}
 use Rattle.stair_member.specs.Establishing.{Did, Establishes, HasBegun, NotYet, refusal_in}
 use Rattle.stair_member.specs.Membership.{IsMarkedFor, IsMembership, Membership, why_of}
-use Rattle.stair_member.specs.declared.aim.Aim.TheVariants.{Promote}
+use Rattle.stair_member.specs.declared.aim.EpochChange.TheVariants.{Promote}
 use Rattle.stair_member.specs.declared.fault.FenceFault.{FenceFault}
 use Rattle.stair_member.specs.declared.why.Why.{Why}
 use Rattle.stair_member.specs.declared.why.Why.TheVariants as why
-use Rattle.stair_session.specs.Courses.{Point}
-use Rattle.stair_session.specs.Session.{IsRebuiltIn}
+use Rattle.stair_invariant.specs.Effects.{Snapshot}
+use Rattle.stair_invariant.specs.Session.{IsRebuiltIn}
 use Rattle.stair_array.specs.Machine.{Progress, Refusal}
 use Rattle.stair_array.specs.Mends.{Joined, Promotes, Unsynced}
 use Rattle.stair_array.specs.MendingSteps.{WritesNext}
@@ -50,7 +50,7 @@ by_slots m last rules same each j down =
 
 -- SLOTS THAT ARE LEFT OUT
 
-pub part_down : (more : ℕ) (x y : Point) → IsPart more x y → StayDown x.member.array y.member.array
+pub part_down : (more : ℕ) (x y : Snapshot) → IsPart more x y → StayDown x.member.array y.member.array
 part_down more x y part = by_slots x.member y.member part.rules part.geometry (λ j below down. by j (part.marks j below) down)
   where
     by : (j : ℕ) → MarkStays x y j → mark_in x.member.array j ≡ mark.Down → mark_in y.member.array j ≡ mark.Down
@@ -60,7 +60,7 @@ part_down more x y part = by_slots x.member y.member part.rules part.geometry (�
 
 -- A CHUNK
 
-pub next_part : (j t : ℕ) (answer : Result Reply Refusal) (x z : Point) → WritesNext j t answer x z → IsMembership x.member → IsPart 0 x z
+pub next_part : (j t : ℕ) (answer : Result Reply Refusal) (x z : Snapshot) → WritesNext j t answer x z → IsMembership x.member → IsPart 0 x z
 next_part j t _ _ _ (WritesNext.Unread into refusal x y loads) rules = loaded_part t into _ x y loads rules
 next_part j t _ _ _ (WritesNext.FellLoading into x y loads fell) rules = loaded_part t into _ x y loads rules
 next_part j t _ _ _ (WritesNext.Fell into refusal x y z w loads rebuilt wrote drops) rules =
@@ -79,7 +79,7 @@ away_down why.Rebuilding m marked down = let never : mark.Rebuilding ≡ mark.Do
 away_down w m marked down = refl
 
 -- of a slot that is rebuilt: it isn't Down, and any other slot is marked as before
-epoch_down : (slot : ℕ) (m last : Membership) (refusal : Option FenceFault) (old new : Telling)
+epoch_down : (slot : ℕ) (m last : Membership) (refusal : Option FenceFault) (old new : RackState)
     → Establishes (Promote slot) m last refusal old new → IsMembership m → IsRebuiltIn m slot → StayDown m.array last.array
 epoch_down slot m last refusal old new e rules rebuilt =
     by_slots m last e.rules e.geometry (λ j below down. by e.began j below down)
@@ -102,7 +102,7 @@ epoch_down slot m last refusal old new e rules rebuilt =
           | inr dropped ↦ dropped.1
         ]
 
-pub promotes_down : (j : ℕ) (answer : Result Progress Refusal) (x z : Point) → Promotes j answer x z → IsMembership x.member
+pub promotes_down : (j : ℕ) (answer : Result Progress Refusal) (x z : Snapshot) → Promotes j answer x z → IsMembership x.member
     → IsRebuiltIn x.member j → StayDown x.member.array z.member.array
 promotes_down j _ _ _ (Unsynced refusal x y z syncs drops) rules rebuilt =
     let here = rebuilt_here x.member j rebuilt in

@@ -3,10 +3,10 @@
 use Rattle.std.proofs.Common.{◌≡◌, List, refl}
 use Rattle.stair_rack.specs.declared.watcher.Event.{Event}
 use Rattle.stair_member.specs.Membership.{IsMembership}
-use Rattle.stair_session.specs.Returning.{NoneReturns, Returning}
-use Rattle.stair_session.proofs.Mending.{LeadsAdmissions, LeadsBeside, LeadsPromotions}
-use Rattle.stair_session.proofs.Serving.{LeadsReads, LeadsRedos}
-use Rattle.stair_session.proofs.Stamping.{LeadsStamps}
+use Rattle.stair_invariant.specs.Returning.{NoneReturns, Returning}
+use Rattle.stair_invariant.proofs.Mending.{LeadsAdmissions, LeadsBeside, LeadsPromotions}
+use Rattle.stair_invariant.proofs.Serving.{LeadsReads, LeadsRedos}
+use Rattle.stair_invariant.proofs.Stamping.{LeadsStamps}
 use Rattle.stair_array.specs.Machine.{Answer, LookAtSeats, ReadBlock, RebuildNext, Recover, ReplaceSlot, ScrubStripe, SetFrozen, SetLabel, Step, WriteBlocks}
 use Rattle.stair_array.specs.Promise.{LeadsStep, Performs, Seen}
 use Rattle.stair_array.proofs.MendsLeadLemmas.{admissions_lead, beside_leads, promotions_lead}

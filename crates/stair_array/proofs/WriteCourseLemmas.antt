@@ -6,7 +6,7 @@ use Rattle.stair_model.specs.Stripe.{Stripe}
 use Rattle.stair_member.specs.Membership.{IsMembership}
 use Rattle.stair_stripes.specs.Gathering.{IsCellOf}
 use Rattle.stair_state.specs.Redoing.{AtRest}
-use Rattle.stair_session.specs.Courses.{Point}
+use Rattle.stair_invariant.specs.Effects.{Snapshot}
 use Rattle.stair_array.specs.Calls.{LoadsStripe, Prepares, WritesBlocks}
 use Rattle.stair_array.specs.Machine.{Refusal}
 use Rattle.stair_array.proofs.AnsweredLemmas.{IsLeftOut, honest_before, left_out_join, never_answered, redo_left_out}
@@ -16,7 +16,7 @@ use Rattle.stair_array.proofs.ReadCourseLemmas.{load_left_out, loaded_part}
 
 -- ITS PARTS
 
-pub prepared_part : (t count : ℕ) (cells : CellSet) (loaded : Stripe) (answer : Result (Unit {0}) Refusal) (x z : Point)
+pub prepared_part : (t count : ℕ) (cells : CellSet) (loaded : Stripe) (answer : Result (Unit {0}) Refusal) (x z : Snapshot)
     → Prepares t count cells loaded answer x z → IsMembership x.member → IsPart 0 x z
 prepared_part t count cells loaded _ _ _ (Prepares.Filled x full) rules = part_none x rules
 prepared_part t count cells loaded _ _ _ (Prepares.ByCells gathered was x y few loads all) rules =
@@ -28,7 +28,7 @@ prepared_part t count cells loaded _ _ _ (Prepares.AfterCells gathered was into 
     part_join 0 0 x y z first (loaded_part t loaded answer y z whole first.rules)
 prepared_part t count cells loaded _ _ _ (Prepares.ByStripe i j answer x y few has away whole) rules = loaded_part t loaded answer x y whole rules
 
-pub written_part : (first : ℕ) (contents : List (List ℕ)) (answer : Result (Unit {0}) Refusal) (x z : Point) → WritesBlocks first contents answer x z
+pub written_part : (first : ℕ) (contents : List (List ℕ)) (answer : Result (Unit {0}) Refusal) (x z : Snapshot) → WritesBlocks first contents answer x z
     → IsMembership x.member → IsPart 0 x z
 written_part first contents _ _ _ (WritesBlocks.OutOf x past) rules = part_none x rules
 written_part first contents _ _ _ (WritesBlocks.IsFrozen x below frozen) rules = part_none x rules
@@ -40,14 +40,14 @@ written_part first contents _ _ _ (WritesBlocks.Wrote redo loaded stripe refusal
 
 -- WHO IS LEFT OUT
 
-whole_left_out : (t : ℕ) (into : Stripe) (answer : Result (Unit {0}) Refusal) (x y : Point) → LoadsStripe t into answer x y → IsTrue y.told.honest
+whole_left_out : (t : ℕ) (into : Stripe) (answer : Result (Unit {0}) Refusal) (x y : Snapshot) → LoadsStripe t into answer x y → IsTrue y.told.honest
     → IsLeftOut x y
 whole_left_out t into _ _ _ (LoadsStripe.Loaded was read gathered answer x y loads is) honest =
     load_left_out t (IsCellOf x.member.array.geometry) gathered was read None x y loads honest
 whole_left_out t into _ _ _ (LoadsStripe.Stops was read gathered fault x y loads) honest =
     load_left_out t (IsCellOf x.member.array.geometry) gathered was read (Some fault) x y loads honest
 
-prepared_left_out : (t count : ℕ) (cells : CellSet) (loaded : Stripe) (answer : Result (Unit {0}) Refusal) (x z : Point)
+prepared_left_out : (t count : ℕ) (cells : CellSet) (loaded : Stripe) (answer : Result (Unit {0}) Refusal) (x z : Snapshot)
     → Prepares t count cells loaded answer x z → IsMembership x.member → IsTrue z.told.honest → IsLeftOut x z
 prepared_left_out t count cells loaded _ _ _ (Prepares.Filled x full) rules honest =
     λ j call here was gone. absurd (never_answered j call x.told.history was)
@@ -64,7 +64,7 @@ prepared_left_out t count cells loaded _ _ _ (Prepares.AfterCells gathered was i
 prepared_left_out t count cells loaded _ _ _ (Prepares.ByStripe i j answer x y few has away whole) rules honest =
     whole_left_out t loaded answer x y whole honest
 
-pub written_left_out : (first : ℕ) (contents : List (List ℕ)) (answer : Result (Unit {0}) Refusal) (x z : Point)
+pub written_left_out : (first : ℕ) (contents : List (List ℕ)) (answer : Result (Unit {0}) Refusal) (x z : Snapshot)
     → WritesBlocks first contents answer x z → IsMembership x.member → IsTrue z.told.honest → IsLeftOut x z
 written_left_out first contents _ _ _ (WritesBlocks.OutOf x past) rules honest =
     λ j call here was gone. absurd (never_answered j call x.told.history was)

@@ -11,7 +11,7 @@ use Rattle.stair_rack.specs.Media.{Image}
 use Rattle.stair_rack.specs.Offline.{IsAttached, IsHeld, IsOffline, IsOfflineUntilAttached}
 use Rattle.stair_rack.specs.Sector.{damaged}
 use Rattle.stair_rack.specs.Stretch.{NothingReturned}
-use Rattle.stair_rack.specs.Telling.{Telling}
+use Rattle.stair_rack.specs.RackState.{RackState}
 use Rattle.stair_rack.proofs.MomentLemmas.{moment_between, ran_join, ran_weakened}
 use Rattle.stair_rack.proofs.StretchLemmas.{each_after}
 use Rattle.stair_member.specs.Current.{IsCurrent}
@@ -22,23 +22,23 @@ use Rattle.stair_member.proofs.SuperLemmas.{counts_bears, super_formed}
 use Rattle.stair_state.specs.Blocks.{Codewords}
 use Rattle.stair_state.specs.Redoing.{AtRest, AttachesNone, Done, InPlace, IsRedoing, Placing, Redoing, Stage, Uncommitted}
 use Rattle.stair_state.specs.State.{BlocksAre, Change, Content, State, changed_if}
-use Rattle.stair_session.specs.Courses.{Fenced, LeavesOut, NoneWas, Point, point}
-use Rattle.stair_session.specs.CutOff.{IsStillThere}
-use Rattle.stair_session.specs.Leading.{IsOpenAmid}
-use Rattle.stair_session.specs.Opening.{StaysArray}
-use Rattle.stair_session.specs.Returning.{NoneReturns}
-use Rattle.stair_session.specs.Session.{ArrayState, HasOwn, IsLiveIn, seats_in}
-use Rattle.stair_session.specs.UnderWay.{IsOfRedo, IsUnderWay, content_in, doubt_in}
-use Rattle.stair_session.proofs.BesideLemmas.{attached_on}
-use Rattle.stair_session.proofs.CutOffLemmas.{keeps, represents_still}
-use Rattle.stair_session.proofs.MidwayLemmas.{bears_none}
-use Rattle.stair_session.proofs.OpenLaws.{in_session}
-use Rattle.stair_session.proofs.OpenWithLemmas.{amid_of}
-use Rattle.stair_session.proofs.OwnLaws.{attached_or_bare}
-use Rattle.stair_session.proofs.RedoingLemmas.{no_redo, out_ran, resting, way_begins}
-use Rattle.stair_session.proofs.SeatLemmas.{listed_member, listed_super}
-use Rattle.stair_session.proofs.Serving.{IsGoing}
-use Rattle.stair_session.proofs.StaysArrayLemmas.{drops_twice}
+use Rattle.stair_invariant.specs.Effects.{Fenced, FencesGone, NoneWas, Snapshot, snapshot}
+use Rattle.stair_invariant.specs.CutOff.{IsStillThere}
+use Rattle.stair_invariant.specs.Leading.{IsOpenAmid}
+use Rattle.stair_invariant.specs.Opening.{StaysArray}
+use Rattle.stair_invariant.specs.Returning.{NoneReturns}
+use Rattle.stair_invariant.specs.Session.{ArrayState, HasOwn, IsLiveIn, seats_in}
+use Rattle.stair_invariant.specs.UnderWay.{IsOfRedo, IsUnderWay, content_in, doubt_in}
+use Rattle.stair_invariant.proofs.BesideLemmas.{attached_on}
+use Rattle.stair_invariant.proofs.CutOffLemmas.{keeps, represents_still}
+use Rattle.stair_invariant.proofs.MidwayLemmas.{bears_none}
+use Rattle.stair_invariant.proofs.OpenLaws.{in_session}
+use Rattle.stair_invariant.proofs.OpenWithLemmas.{amid_of}
+use Rattle.stair_invariant.proofs.OwnLaws.{attached_or_bare}
+use Rattle.stair_invariant.proofs.RedoingLemmas.{no_redo, out_ran, resting, way_begins}
+use Rattle.stair_invariant.proofs.SeatLemmas.{listed_member, listed_super}
+use Rattle.stair_invariant.proofs.Serving.{IsGoing}
+use Rattle.stair_invariant.proofs.StaysArrayLemmas.{drops_twice}
 use Rattle.stair_array.specs.Machine.{InDoubt, IsAsItWas, Made, MayBeCut}
 use Rattle.stair_array.specs.Writes.{IsCutOffIn}
 use Rattle.stair_array.proofs.GoneToLemmas.{attaches_none}
@@ -54,11 +54,11 @@ IsNoneOrWrite first contents change = (change ≡ None) ⊎ (change ≡ Some (Bl
 -- An epoch was refused in this stage of a redo, to an array that was left of this one. Each slot that was live at first and is attached
 -- in the end was live in it.
 pub record IsRefusedIn (before : List Happening) (kept : Content) (first : ℕ) (contents : List (List ℕ)) (m : Membership) (fault : FenceFault)
-    (z : Point) : Type 0 where
+    (z : Snapshot) : Type 0 where
   pub array : ArrayState
-  pub mid : Telling
+  pub mid : RackState
   pub gone : Slots
-  pub leaves : LeavesOut gone (Some fault) (point array.member mid) z
+  pub leaves : FencesGone gone (Some fault) (snapshot array.member mid) z
   pub redoing : Redoing
   pub stage : Stage
   pub start : List Happening
@@ -75,7 +75,7 @@ pub record IsRefusedIn (before : List Happening) (kept : Content) (first : ℕ) 
 
 -- as it was while cells were read
 pub rest_refused : (before : List Happening) (words : Codewords) (kept : Content) (first : ℕ) (contents : List (List ℕ)) (m : Membership)
-    (fault : FenceFault) (z : Point) → IsRefusedAt NoneReturns before words kept m fault z → IsTrue z.told.honest
+    (fault : FenceFault) (z : Snapshot) → IsRefusedAt NoneReturns before words kept m fault z → IsTrue z.told.honest
     → IsGoing NoneReturns m.array.geometry before z.told.history → IsRefusedIn before kept first contents m fault z
 rest_refused before words kept first contents m fault z at honest on = record {
   array = at.array;
@@ -109,7 +109,7 @@ rest_refused before words kept first contents m fault z at honest on = record {
     on_mid : IsGoing NoneReturns m.array.geometry before at.mid.history
     on_mid =
         going_sooner NoneReturns m.array.geometry before at.mid.history z.told.history at.serves.is_open.ran
-        (out_ran at.gone (Some fault) (point at.array.member at.mid) z at.leaves honest) on
+        (out_ran at.gone (Some fault) (snapshot at.array.member at.mid) z at.leaves honest) on
 
 -- WHAT A STAGE LEAVES
 
@@ -151,7 +151,7 @@ module _ (first : ℕ) (contents : List (List ℕ)) (g : Geometry) (kept : Conte
 
 -- THE RACK
 
-module _ (before : List Happening) (kept : Content) (first : ℕ) (contents : List (List ℕ)) (m : Membership) (fault : FenceFault) (z : Point)
+module _ (before : List Happening) (kept : Content) (first : ℕ) (contents : List (List ℕ)) (m : Membership) (fault : FenceFault) (z : Snapshot)
     (at : IsRefusedIn before kept first contents m fault z) (honest : IsTrue z.told.honest)
     (on : IsGoing NoneReturns m.array.geometry before z.told.history)
     (held : (j : ℕ) → IsLiveIn m j → IsHeld before z.told.history j)
@@ -161,7 +161,7 @@ module _ (before : List Happening) (kept : Content) (first : ℕ) (contents : Li
     p = at.array.member
 
     ran : Ran any_call at.mid.history z.told.history
-    ran = out_ran at.gone (Some fault) (point p at.mid) z at.leaves honest
+    ran = out_ran at.gone (Some fault) (snapshot p at.mid) z at.leaves honest
 
     all : Ran any_call before z.told.history
     all = ran_join {allowed = any_call} at.amid.ran ran
@@ -213,7 +213,7 @@ module _ (before : List Happening) (kept : Content) (first : ℕ) (contents : Li
       attached_mid =
           attached_on at.mid.history z.told.history j
           (ran_weakened {allowed = attaches_none} {more = AttachesNone (λ i. i ≡ j)} (λ i c may here. may)
-          ((out_after at.gone (Some fault) (point p at.mid) z at.leaves).beside honest)) attached_z
+          ((out_after at.gone (Some fault) (snapshot p at.mid) z at.leaves).beside honest)) attached_z
 
       still_p : IsStillThere (IsOffline before z.told.history) p.array.geometry (λ i. IsLiveIn p i × IsAttached at.mid.history i) image
       still_p =
@@ -232,7 +232,7 @@ module _ (before : List Happening) (kept : Content) (first : ℕ) (contents : Li
         → IsCutOffIn first contents s (seats_in m.array) z.told.history
     cut_off s same content certain = by at.leaves
       where
-        by : LeavesOut at.gone (Some fault) (point p at.mid) z → IsCutOffIn first contents s (seats_in m.array) z.told.history
+        by : FencesGone at.gone (Some fault) (snapshot p at.mid) z → IsCutOffIn first contents s (seats_in m.array) z.told.history
         by (NoneWas out alike fine) = absurd (let never : Some fault ≡ None = fine in cc)
         by (Fenced i has answer fine e) = record {
           state = left_in first contents p.array.geometry kept s content certain at.stage at.change;

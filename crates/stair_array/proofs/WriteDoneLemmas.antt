@@ -11,11 +11,11 @@ use Rattle.stair_member.specs.declared.fault.FenceFault.TheVariants as fence
 use Rattle.stair_member.specs.declared.why.Why.{Why}
 use Rattle.stair_state.specs.Blocks.{Codewords}
 use Rattle.stair_state.specs.State.{Content, State}
-use Rattle.stair_session.specs.Courses.{Point, point}
-use Rattle.stair_session.specs.Rebuilding.{Rebuild}
-use Rattle.stair_session.specs.Returning.{IsCalm, Returning}
-use Rattle.stair_session.proofs.Serving.{LeadsReads, LeadsRedos, IsCalmTo}
-use Rattle.stair_session.proofs.Mending.{calm_going}
+use Rattle.stair_invariant.specs.Effects.{Snapshot, snapshot}
+use Rattle.stair_invariant.specs.Rebuilding.{Rebuild}
+use Rattle.stair_invariant.specs.Returning.{StaysWithinTolerance, Returning}
+use Rattle.stair_invariant.proofs.Serving.{LeadsReads, LeadsRedos, StaysWithinToleranceTo}
+use Rattle.stair_invariant.proofs.Mending.{calm_going}
 use Rattle.stair_array.specs.Calls.{WritesBlocks, answer_of, refused}
 use Rattle.stair_array.specs.Machine.{Answer, Refusal, WriteBlocks}
 use Rattle.stair_array.specs.Promise.{CanBeDone, IsInState, LeadsStep, Performs, Seen, is_open}
@@ -30,9 +30,9 @@ use Rattle.stair_array.proofs.WriteStepLemmas.{begins, calm_begun, cuts, leads, 
 
 module _ (returning : Returning) (laws : LeadsReads returning) (redos : LeadsRedos returning) (before : List Happening) (rebuild : Option Rebuild)
     (stopped : Option FenceFault) (words : Codewords) (kept : Content) where
-  pub only_spent : (first : ℕ) (contents : List (List ℕ)) (answer : Result (Unit {0}) Refusal) (x z : Point) → WritesBlocks first contents answer x z
+  pub only_spent : (first : ℕ) (contents : List (List ℕ)) (answer : Result (Unit {0}) Refusal) (x z : Snapshot) → WritesBlocks first contents answer x z
       → Serves returning before rebuild stopped words kept x x.told.history → IsTrue z.told.honest
-      → IsCalmTo returning x.member.array.geometry before z.told.history → first < block_count x.member.array.geometry → x.member.array.frozen ≡ false
+      → StaysWithinToleranceTo returning x.member.array.geometry before z.told.history → first < block_count x.member.array.geometry → x.member.array.frozen ≡ false
       → (refusal : Refusal) → answer ≡ Err refusal → refusal ≡ refused fence.EpochsSpent
   only_spent first contents _ _ _ (WritesBlocks.OutOf x past) is honest calm below thawed refusal same = absurd (omega (arith, below, past))
   only_spent first contents _ _ _ (WritesBlocks.IsFrozen x low frozen) is honest calm below thawed refusal same =
@@ -69,13 +69,13 @@ module _ (returning : Returning) (laws : LeadsReads returning) (redos : LeadsRed
     (answer : Answer (WriteBlocks first contents)) (events : List Event) (x y : Seen)
     (p : Performs (WriteBlocks first contents) answer events x y) (honest : IsTrue y.told.honest) (before : List Happening) (s : State)
     (history : IsHistory x.told.history) (state : IsInState returning before s x)
-    (calm : IsCalm returning s.geometry (is_open x.session) before y.told.history) where
+    (calm : StaysWithinTolerance returning s.geometry (is_open x.session) before y.told.history) where
   pub none_refused : first < block_count s.geometry → s.content.frozen ≡ false → (refusal : Refusal) → answer ≡ Err refusal
       → refusal ≡ refused fence.EpochsSpent
   none_refused below thawed refusal same =
       only_spent returning laws redos before p.was.rebuild p.was.stopped (begins returning laws redos first contents answer events x y p honest before
       s history state).words s.content first contents answer
-      (point p.was.member x.told) (point p.is.member y.told) p.does
+      (snapshot p.was.member x.told) (snapshot p.is.member y.told) p.does
       (serves returning laws redos first contents answer events x y p honest before s history state) honest
       (calm_begun returning laws redos first contents answer events x y p honest before s history state y.told.history calm)
       (subst (λ (g : Geometry). first < block_count g) (sym (begins returning laws redos first contents answer events x y p honest before s history

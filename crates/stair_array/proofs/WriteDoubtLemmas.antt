@@ -21,12 +21,12 @@ use Rattle.stair_state.specs.Blocks.{AreEncodingsOf, AreOfOneStripe, Codewords, 
 use Rattle.stair_state.specs.Redoing.{AtRest, IsRedoing, Redoing}
 use Rattle.stair_state.specs.State.{BlocksAre, Change, Content, changed_if}
 use Rattle.stair_state.proofs.BlockLemmas.{set_all}
-use Rattle.stair_session.specs.Courses.{Point, Redoes}
-use Rattle.stair_session.specs.Leading.{led_to}
-use Rattle.stair_session.specs.Opening.{StaysArray}
-use Rattle.stair_session.specs.Rebuilding.{Rebuild}
-use Rattle.stair_session.specs.Returning.{Returning}
-use Rattle.stair_session.proofs.Serving.{IsGoing, IsServing, LeadsRedos, StandsIn, IsCalmTo, StandsAs}
+use Rattle.stair_invariant.specs.Effects.{Snapshot, Redoes}
+use Rattle.stair_invariant.specs.Leading.{led_to}
+use Rattle.stair_invariant.specs.Opening.{StaysArray}
+use Rattle.stair_invariant.specs.Rebuilding.{Rebuild}
+use Rattle.stair_invariant.specs.Returning.{Returning}
+use Rattle.stair_invariant.proofs.Serving.{IsGoing, IsServing, LeadsRedos, StandsIn, StaysWithinToleranceTo, StandsAs}
 use Rattle.stair_array.specs.Calls.{AreInPlace, AreSet}
 use Rattle.stair_array.proofs.LoadingLemmas.{LiveStill, Serves, ServesOn}
 use Rattle.stair_array.proofs.RedoDoubtLemmas as redo_doubt
@@ -74,20 +74,20 @@ module _ (returning : Returning) (before : List Happening) (rebuild : Option Reb
     (kept : Content) (first : ℕ)
     (contents : List (List ℕ)) where
   -- the array serves on, and the cells of the write are known
-  pub record IsReady (x : Point) (t : ℕ) (cells : CellSet) (loaded : Stripe) (y : Point) : Type 0 where
+  pub record IsReady (x : Snapshot) (t : ℕ) (cells : CellSet) (loaded : Stripe) (y : Snapshot) : Type 0 where
     pub serves : ServesOn returning before rebuild stopped_by words kept x y
     pub stays : StaysArray x.member y.member
     pub live : LiveStill x y
     pub known : IsKnown words t (length contents) cells loaded x
 
   -- the array serves the stripes with the blocks set
-  pub record IsWritten (x : Point) (z : Point) : Type 0 where
+  pub record IsWritten (x : Snapshot) (z : Snapshot) : Type 0 where
     pub new : Codewords
     pub serves : IsServing returning before (led_to (array_with rebuild stopped_by x) z.member) new (changed_if (written first contents) kept)
         z.told.history
     pub stays : StaysArray x.member z.member
 
-  module _ (redo : Redo) (loaded stripe : Stripe) (x y : Point)
+  module _ (redo : Redo) (loaded stripe : Stripe) (x y : Snapshot)
       (is : Serves returning before rebuild stopped_by words kept x x.told.history)
       (place : AreInPlace x.member.array first contents redo.stripe redo.cells)
       (formed : IsRedo x.member.array.geometry redo) (set : AreSet x.member.array.geometry redo.stripe first contents redo.cells loaded stripe)
@@ -157,7 +157,7 @@ module _ (returning : Returning) (before : List Happening) (rebuild : Option Reb
 
     module _ (redos : LeadsRedos returning) where
       -- done
-      pub done : (z : Point) → Redoes x.member.array.geometry redo stripe AtRest None y z → IsTrue z.told.honest
+      pub done : (z : Snapshot) → Redoes x.member.array.geometry redo stripe AtRest None y z → IsTrue z.told.honest
           → IsGoing returning x.member.array.geometry before z.told.history → IsWritten x z
       done z run honest on =
           let ends = redo_doubt.done returning before rebuild stopped_by words new_words kept
@@ -165,9 +165,9 @@ module _ (returning : Returning) (before : List Happening) (rebuild : Option Reb
           record { new = new_words; serves = ends.0; stays = ends.1 }
 
       -- what a crash leaves at a moment of it
-      pub redo_stands : (refusal : Option FenceFault) (z : Point) → Redoes x.member.array.geometry redo stripe AtRest refusal y z
+      pub redo_stands : (refusal : Option FenceFault) (z : Snapshot) → Redoes x.member.array.geometry redo stripe AtRest refusal y z
           → IsTrue z.told.honest → (c : List Happening) → IsMoment y.told.history c z.told.history
-          → IsCalmTo returning x.member.array.geometry before c → (image : Image) → CrashMayLeave c image
+          → StaysWithinToleranceTo returning x.member.array.geometry before c → (image : Image) → CrashMayLeave c image
           → StandsSo returning kept first contents x.member image
       redo_stands refusal z run honest c at calm image left = record {
         doubt = written first contents;
@@ -179,16 +179,16 @@ module _ (returning : Returning) (before : List Happening) (rebuild : Option Reb
       }
 
       -- refused
-      pub stops : (fault : FenceFault) (z : Point) → Redoes x.member.array.geometry redo stripe AtRest (Some fault) y z → IsTrue z.told.honest
-          → IsCalmTo returning x.member.array.geometry before z.told.history
+      pub stops : (fault : FenceFault) (z : Snapshot) → Redoes x.member.array.geometry redo stripe AtRest (Some fault) y z → IsTrue z.told.honest
+          → StaysWithinToleranceTo returning x.member.array.geometry before z.told.history
           → StandsAs returning x.member kept (written first contents) z.told.history
       stops fault z run honest calm =
           redo_doubt.stops returning before rebuild stopped_by words new_words kept
           (written first contents) redo stripe redos x y doing fault z run honest calm
 
       -- not for want of slots
-      pub enough : (whys : List Why) (refusal : Option FenceFault) (z : Point) → Redoes x.member.array.geometry redo stripe AtRest refusal y z
-          → refusal ≡ Some (fence.TooFew whys) → IsTrue z.told.honest → IsCalmTo returning x.member.array.geometry before z.told.history → ⊥
+      pub enough : (whys : List Why) (refusal : Option FenceFault) (z : Snapshot) → Redoes x.member.array.geometry redo stripe AtRest refusal y z
+          → refusal ≡ Some (fence.TooFew whys) → IsTrue z.told.honest → StaysWithinToleranceTo returning x.member.array.geometry before z.told.history → ⊥
       enough whys refusal z run few honest calm =
           redo_doubt.enough returning before rebuild stopped_by words new_words kept
           (written first contents) redo stripe redos x y doing whys refusal z run few

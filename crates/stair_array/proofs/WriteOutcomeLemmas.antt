@@ -15,13 +15,13 @@ use Rattle.stair_member.specs.declared.fault.FenceFault.{FenceFault}
 use Rattle.stair_state.specs.Blocks.{Codewords}
 use Rattle.stair_state.specs.Redoing.{AtRest}
 use Rattle.stair_state.specs.State.{Change, Content}
-use Rattle.stair_session.specs.Courses.{Point, Redoes}
-use Rattle.stair_session.specs.Opening.{StaysArray}
-use Rattle.stair_session.specs.Rebuilding.{Rebuild}
-use Rattle.stair_session.specs.Returning.{Returning}
-use Rattle.stair_session.proofs.HonestLemmas.{honest_first}
-use Rattle.stair_session.proofs.Serving.{IsGoing, LeadsReads, StandsAs, IsCalmTo, LeadsRedos}
-use Rattle.stair_session.proofs.Mending.{calm_going}
+use Rattle.stair_invariant.specs.Effects.{Snapshot, Redoes}
+use Rattle.stair_invariant.specs.Opening.{StaysArray}
+use Rattle.stair_invariant.specs.Rebuilding.{Rebuild}
+use Rattle.stair_invariant.specs.Returning.{Returning}
+use Rattle.stair_invariant.proofs.HonestLemmas.{honest_first}
+use Rattle.stair_invariant.proofs.Serving.{IsGoing, LeadsReads, StandsAs, StaysWithinToleranceTo, LeadsRedos}
+use Rattle.stair_invariant.proofs.Mending.{calm_going}
 use Rattle.stair_array.specs.Calls.{AreInPlace, Prepares, WritesBlocks, answer_of, refused}
 use Rattle.stair_array.specs.Machine.{IsFinal, Refusal}
 use Rattle.stair_array.proofs.LeftServingLemmas.{serving_stands, StandsAt}
@@ -38,16 +38,16 @@ module _ (returning : Returning) (before : List Happening) (rebuild : Option Reb
     (contents : List (List ℕ)) where
   abbrev pub StandsWith : Membership → List Happening → Type 0
   StandsWith m c =
-      IsCalmTo returning m.array.geometry before c → (image : Image) → CrashMayLeave c image → StandsSo returning kept first contents m image
+      StaysWithinToleranceTo returning m.array.geometry before c → (image : Image) → CrashMayLeave c image → StandsSo returning kept first contents m image
 
   -- The array serves the stripes with the blocks set; it serves on as it was, and is refused what isn't an epoch; or an epoch was
   -- refused, and the rack represents the array, with the write in doubt or without.
-  pub data Outcome (x : Point) : Result (Unit {0}) Refusal → Point → Type 0 where
-    Written : (z : Point) → MayWrite first contents x.member → IsWritten returning before rebuild stopped_by words kept first contents x z
+  pub data Outcome (x : Snapshot) : Result (Unit {0}) Refusal → Snapshot → Type 0 where
+    Written : (z : Snapshot) → MayWrite first contents x.member → IsWritten returning before rebuild stopped_by words kept first contents x z
         → Outcome x (Ok tt) z
-    Refused : (refusal : Refusal) (z : Point) → ServesOn returning before rebuild stopped_by words kept x z → StaysArray x.member z.member
+    Refused : (refusal : Refusal) (z : Snapshot) → ServesOn returning before rebuild stopped_by words kept x z → StaysArray x.member z.member
         → ¬ IsFinal refusal → Outcome x (Err refusal) z
-    Stopped : (fault : FenceFault) (z : Point) (doubt : Option Change) → MayWrite first contents x.member
+    Stopped : (fault : FenceFault) (z : Snapshot) (doubt : Option Change) → MayWrite first contents x.member
         → MayDoubt first contents x.member doubt → StandsAs returning x.member kept doubt z.told.history → Outcome x (Err (refused fault)) z
 
 module _ (returning : Returning) (laws : LeadsReads returning) (before : List Happening) (rebuild : Option Rebuild) (stopped_by : Option FenceFault)
@@ -55,10 +55,10 @@ module _ (returning : Returning) (laws : LeadsReads returning) (before : List Ha
   abbrev StandsHere : Membership → List Happening → Type 0
   StandsHere = StandsWith returning before rebuild stopped_by words kept first contents
 
-  abbrev OutcomeAt : Point → Result (Unit {0}) Refusal → Point → Type 0
+  abbrev OutcomeAt : Snapshot → Result (Unit {0}) Refusal → Snapshot → Type 0
   OutcomeAt = Outcome returning before rebuild stopped_by words kept first contents
 
-  abbrev ServesAt : Point → List Happening → Type 0
+  abbrev ServesAt : Snapshot → List Happening → Type 0
   ServesAt x h = Serves returning before rebuild stopped_by words kept x h
 
   -- what cells are read for leaves no doubt
@@ -68,7 +68,7 @@ module _ (returning : Returning) (laws : LeadsReads returning) (before : List Ha
       at_every_mapped {P = StandsAt returning before m kept} {Q = StandsHere m}
       (λ c stands calm image left. record { doubt = None; may = Certain; is = stands calm image left }) every
 
-  nothing_done : (x : Point) → ServesAt x x.told.history → AtEveryMoment (StandsHere x.member) x.told.history x.told.history
+  nothing_done : (x : Snapshot) → ServesAt x x.told.history → AtEveryMoment (StandsHere x.member) x.told.history x.told.history
   nothing_done x is =
       reads_stand x.member
       (at_every_none {P = StandsAt returning before x.member kept} x.told.history
@@ -76,11 +76,11 @@ module _ (returning : Returning) (laws : LeadsReads returning) (before : List Ha
 
   -- WHAT WAS PREPARED
 
-  module _ (x : Point) (t : ℕ) (cells : CellSet) (loaded : Stripe) where
-    abbrev Preparing : Result (Unit {0}) Refusal → Point → Type 0
+  module _ (x : Snapshot) (t : ℕ) (cells : CellSet) (loaded : Stripe) where
+    abbrev Preparing : Result (Unit {0}) Refusal → Snapshot → Type 0
     Preparing = Comes returning before rebuild stopped_by words kept (IsKnown words t (length contents) cells loaded x) x
 
-    ready_of : (answer : Result (Unit {0}) Refusal) (y : Point) → Preparing answer y → answer ≡ Ok tt
+    ready_of : (answer : Result (Unit {0}) Refusal) (y : Snapshot) → Preparing answer y → answer ≡ Ok tt
         → IsReady returning before rebuild stopped_by words kept first contents x t cells loaded y
     ready_of _ _ (Comes.Has y serves stays live known) fine = record {
       serves = serves;
@@ -91,23 +91,23 @@ module _ (returning : Returning) (laws : LeadsReads returning) (before : List Ha
     ready_of _ _ (Comes.Lacks refusal y serves stays not_final) fine = absurd (cc)
     ready_of _ _ (Comes.Stops fault y at) fine = absurd (cc)
 
-    unready_of : MayWrite first contents x.member → (u : Point) → IsTrue u.told.honest
-        → IsCalmTo returning x.member.array.geometry before u.told.history
-        → (refusal : Refusal) (answer : Result (Unit {0}) Refusal) (y : Point) → Preparing answer y → y ≡ u → answer ≡ Err refusal
+    unready_of : MayWrite first contents x.member → (u : Snapshot) → IsTrue u.told.honest
+        → StaysWithinToleranceTo returning x.member.array.geometry before u.told.history
+        → (refusal : Refusal) (answer : Result (Unit {0}) Refusal) (y : Snapshot) → Preparing answer y → y ≡ u → answer ≡ Err refusal
         → OutcomeAt x (Err refusal) y
     unready_of writes u honest calm refusal _ _ (Comes.Has y serves stays live known) ends fine = absurd (cc)
     unready_of writes u honest calm refusal _ _ (Comes.Lacks other y serves stays not_final) ends fine =
         Refused refusal y serves stays (λ final. not_final (subst IsFinal (let one : refusal ≡ other = cc in one) final))
     unready_of writes u honest calm refusal _ _ (Comes.Stops fault y at) ends fine =
         let stands =
-        refused_stands returning laws before words kept x.member fault y at (subst (λ (p : Point). IsTrue p.told.honest) (sym ends) honest)
-        (subst (λ (p : Point). IsCalmTo returning x.member.array.geometry before p.told.history) (sym ends) calm) in
+        refused_stands returning laws before words kept x.member fault y at (subst (λ (p : Snapshot). IsTrue p.told.honest) (sym ends) honest)
+        (subst (λ (p : Snapshot). StaysWithinToleranceTo returning x.member.array.geometry before p.told.history) (sym ends) calm) in
         subst (λ (r : Refusal). OutcomeAt x (Err r) y) (let one : refused fault ≡ refusal = cc in one)
         (Stopped fault y None writes Certain stands)
 
   -- WHAT WAS PREPARED AND DONE
 
-  module _ (redo : Redo) (loaded stripe : Stripe) (refusal : Option FenceFault) (x y z : Point)
+  module _ (redo : Redo) (loaded stripe : Stripe) (refusal : Option FenceFault) (x y z : Snapshot)
       (is : ServesAt x x.told.history) (place : AreInPlace x.member.array first contents redo.stripe redo.cells)
       (prepares : Prepares redo.stripe (length contents) redo.cells loaded (Ok tt) x y)
       (run : Redoes x.member.array.geometry redo stripe AtRest refusal y z) (honest : IsTrue z.told.honest) where
@@ -144,7 +144,7 @@ module _ (returning : Returning) (laws : LeadsReads returning) (before : List Ha
   -- ALL OF IT
 
   module _ (redos : LeadsRedos returning) where
-    pub moments : (answer : Result (Unit {0}) Refusal) (x z : Point) → WritesBlocks first contents answer x z → ServesAt x x.told.history
+    pub moments : (answer : Result (Unit {0}) Refusal) (x z : Snapshot) → WritesBlocks first contents answer x z → ServesAt x x.told.history
         → IsTrue z.told.honest
         → AtEveryMoment (StandsHere x.member) x.told.history z.told.history
     moments _ _ _ (WritesBlocks.OutOf x past) is honest = nothing_done x is
@@ -167,9 +167,9 @@ module _ (returning : Returning) (laws : LeadsReads returning) (before : List Ha
         redos refusal z run
         honest c at calm image left))
 
-    pub outcome : (answer : Result (Unit {0}) Refusal) (x z : Point) → WritesBlocks first contents answer x z → ServesAt x x.told.history
+    pub outcome : (answer : Result (Unit {0}) Refusal) (x z : Snapshot) → WritesBlocks first contents answer x z → ServesAt x x.told.history
         → IsTrue z.told.honest
-        → IsCalmTo returning x.member.array.geometry before z.told.history → OutcomeAt x answer z
+        → StaysWithinToleranceTo returning x.member.array.geometry before z.told.history → OutcomeAt x answer z
     outcome _ _ _ (WritesBlocks.OutOf x past) is honest calm =
         Refused _ x
         (same_serves returning laws before rebuild stopped_by words kept x x refl honest is

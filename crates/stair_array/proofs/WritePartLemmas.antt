@@ -16,15 +16,15 @@ use Rattle.stair_stripes.specs.declared.gathering.Gathered.{Gathered}
 use Rattle.stair_state.specs.Blocks.{Codewords}
 use Rattle.stair_state.specs.Redoing.{AttachesNone}
 use Rattle.stair_state.specs.State.{Content}
-use Rattle.stair_session.specs.Courses.{Point}
-use Rattle.stair_session.specs.Leading.{rebuild_in}
-use Rattle.stair_session.specs.Opening.{StaysArray}
-use Rattle.stair_session.specs.Rebuilding.{Rebuild}
-use Rattle.stair_session.specs.Returning.{Returning}
-use Rattle.stair_session.proofs.BesideLemmas.{attached_on}
-use Rattle.stair_session.proofs.Serving.{IsGoing, calm_sooner, LeadsReads, IsCalmTo}
-use Rattle.stair_session.proofs.StaysArrayLemmas.{stays_again}
-use Rattle.stair_session.proofs.Mending.{calm_going}
+use Rattle.stair_invariant.specs.Effects.{Snapshot}
+use Rattle.stair_invariant.specs.Leading.{rebuild_in}
+use Rattle.stair_invariant.specs.Opening.{StaysArray}
+use Rattle.stair_invariant.specs.Rebuilding.{Rebuild}
+use Rattle.stair_invariant.specs.Returning.{Returning}
+use Rattle.stair_invariant.proofs.BesideLemmas.{attached_on}
+use Rattle.stair_invariant.proofs.Serving.{IsGoing, calm_sooner, LeadsReads, StaysWithinToleranceTo}
+use Rattle.stair_invariant.proofs.StaysArrayLemmas.{stays_again}
+use Rattle.stair_invariant.proofs.Mending.{calm_going}
 use Rattle.stair_array.specs.Calls.{LoadsStripe, Prepares, refused}
 use Rattle.stair_array.specs.Machine.{Refusal}
 use Rattle.stair_array.proofs.CourseLemmas.{load_part}
@@ -40,9 +40,9 @@ use Rattle.stair_array.proofs.ServingLemmas.{going_sooner}
 -- TWO PARTS IN TURN, of which the first left slots out
 
 module _ (returning : Returning) (before : List Happening) (rebuild : Option Rebuild) (stopped : Option FenceFault) (words : Codewords)
-    (kept : Content) (x y : Point) (first : StaysArray x.member y.member) where
+    (kept : Content) (x y : Snapshot) (first : StaysArray x.member y.member) where
   -- a slot that is attached in the end was so in between, and was live then
-  pub refused_on : LiveStill x y → (fault : FenceFault) (z : Point)
+  pub refused_on : LiveStill x y → (fault : FenceFault) (z : Snapshot)
       → ((j : ℕ) → IsAttached z.told.history j → IsAttached y.told.history j) → IsRefusedAt returning before words kept y.member fault z
       → IsRefusedAt returning before words kept x.member fault z
   refused_on live fault z attached at = record {
@@ -58,7 +58,7 @@ module _ (returning : Returning) (before : List Happening) (rebuild : Option Reb
   }
 
   pub comes_on : {Right Whole : Type 0} → (Right → Whole) → Serves returning before rebuild stopped words kept x x.told.history
-      → ServesOn returning before rebuild stopped words kept x y → LiveStill x y → (answer : Result (Unit {0}) Refusal) (z : Point)
+      → ServesOn returning before rebuild stopped words kept x y → LiveStill x y → (answer : Result (Unit {0}) Refusal) (z : Snapshot)
       → ((j : ℕ) → IsAttached z.told.history j → IsAttached y.told.history j)
       → Comes returning before (rebuild_in y.member rebuild) None words kept Right y answer z
       → Comes returning before rebuild stopped words kept Whole x answer z
@@ -77,26 +77,26 @@ module _ (returning : Returning) (before : List Happening) (rebuild : Option Reb
 -- THE CELLS OF A WRITE, of stripe t
 
 -- the blocks fill the stripe, or what was loaded has its cells
-abbrev pub IsKnown : Codewords → ℕ → ℕ → CellSet → Stripe → Point → Type 0
+abbrev pub IsKnown : Codewords → ℕ → ℕ → CellSet → Stripe → Snapshot → Type 0
 IsKnown words t count cells loaded x =
     (count ≡ data_cells x.member.array.geometry) ⊎ ((i j : ℕ) → HasCell cells i j → cell (words t) i j ≡ cell loaded i j)
 
 module _ (returning : Returning) (laws : LeadsReads returning) (before : List Happening) (rebuild : Option Rebuild) (stopped : Option FenceFault)
     (words : Codewords) (kept : Content) (t count : ℕ)
     (cells : CellSet) (loaded : Stripe) where
-  abbrev Known : Point → Type 0
+  abbrev Known : Snapshot → Type 0
   Known = IsKnown words t count cells loaded
 
-  of_word : (x : Point) → loaded ≡ words t → Known x
+  of_word : (x : Snapshot) → loaded ≡ words t → Known x
   of_word x same = inr (λ i j has. ap (λ (s : Stripe). cell s i j) (sym same))
 
-  abbrev ServesAt : Point → List Happening → Type 0
+  abbrev ServesAt : Snapshot → List Happening → Type 0
   ServesAt x h = Serves returning before rebuild stopped words kept x h
 
-  abbrev InStripe : Point → Type 0
+  abbrev InStripe : Snapshot → Type 0
   InStripe x = (i j : ℕ) → HasCell cells i j → IsCellOf x.member.array.geometry i j
 
-  module _ (answer : Result (Unit {0}) Refusal) (gathered : Gathered) (was into : Stripe) (x y z : Point)
+  module _ (answer : Result (Unit {0}) Refusal) (gathered : Gathered) (was into : Stripe) (x y z : Snapshot)
       (loads : HasLoaded t (HasCell cells) gathered into None x y) (rest : LoadsStripe t loaded answer y z)
       (is : ServesAt x x.told.history) (honest_y : IsTrue y.told.honest) (honest : IsTrue z.told.honest)
       (later : Ran any_call y.told.history z.told.history) (beside : Ran attaches_none y.told.history z.told.history) where
@@ -113,13 +113,13 @@ module _ (returning : Returning) (laws : LeadsReads returning) (before : List Ha
         → IsGoing returning x.member.array.geometry before y.told.history
     going_y c ran on = going_sooner returning x.member.array.geometry before y.told.history c upto ran on
 
-    calm_y : (c : List Happening) → Ran any_call y.told.history c → IsCalmTo returning x.member.array.geometry before c
-        → IsCalmTo returning x.member.array.geometry before y.told.history
+    calm_y : (c : List Happening) → Ran any_call y.told.history c → StaysWithinToleranceTo returning x.member.array.geometry before c
+        → StaysWithinToleranceTo returning x.member.array.geometry before y.told.history
     calm_y c ran calm =
         calm_sooner returning x.member.array.geometry before y.told.history c (moment_between {a = any_call} {b = any_call} upto ran) calm
 
-    calm_next : (c : List Happening) → IsCalmTo returning x.member.array.geometry before c
-        → IsCalmTo returning y.member.array.geometry before c
+    calm_next : (c : List Happening) → StaysWithinToleranceTo returning x.member.array.geometry before c
+        → StaysWithinToleranceTo returning y.member.array.geometry before c
     calm_next c calm = calm_over returning y.member.array.geometry x.member.array.geometry before c stays.geometry calm
 
     after_moments : AtEveryMoment (StandsAt returning before x.member kept) x.told.history z.told.history
@@ -150,7 +150,7 @@ module _ (returning : Returning) (laws : LeadsReads returning) (before : List Ha
         (subst (λ (g : Geometry). t < g.stripes) (sym stays.geometry) stripe) answer y z rest refl honest
         (going_over returning y.member.array.geometry x.member.array.geometry before z.told.history stays.geometry on))
 
-    after_refused : t < x.member.array.geometry.stripes → IsCalmTo returning x.member.array.geometry before z.told.history → (refusal : Refusal)
+    after_refused : t < x.member.array.geometry.stripes → StaysWithinToleranceTo returning x.member.array.geometry before z.told.history → (refusal : Refusal)
         → answer ≡ Err refusal → refusal ≡ refused fence.EpochsSpent
     after_refused stripe calm refusal same =
         stripe_refused returning laws before (rebuild_in y.member rebuild) None words kept y
@@ -159,7 +159,7 @@ module _ (returning : Returning) (laws : LeadsReads returning) (before : List Ha
 
   -- ALL OF IT
 
-  pub preparing_moments : (answer : Result (Unit {0}) Refusal) (x z : Point) → Prepares t count cells loaded answer x z → ServesAt x x.told.history
+  pub preparing_moments : (answer : Result (Unit {0}) Refusal) (x z : Snapshot) → Prepares t count cells loaded answer x z → ServesAt x x.told.history
       → InStripe x → IsTrue z.told.honest
       → AtEveryMoment (StandsAt returning before x.member kept) x.told.history z.told.history
   preparing_moments _ _ _ (Prepares.Filled x full) is inside honest =
@@ -179,7 +179,7 @@ module _ (returning : Returning) (laws : LeadsReads returning) (before : List Ha
   preparing_moments _ _ _ (Prepares.ByStripe i j answer x y few has out loads) is inside honest =
       stripe_moments returning laws before rebuild stopped words kept x is t loaded x (none_asked x) answer x y loads refl honest
 
-  pub prepared : (answer : Result (Unit {0}) Refusal) (x z : Point) → Prepares t count cells loaded answer x z → ServesAt x x.told.history
+  pub prepared : (answer : Result (Unit {0}) Refusal) (x z : Snapshot) → Prepares t count cells loaded answer x z → ServesAt x x.told.history
       → InStripe x → t < x.member.array.geometry.stripes → IsTrue z.told.honest
       → IsGoing returning x.member.array.geometry before z.told.history → Comes returning before rebuild stopped words kept (Known x) x answer z
   prepared _ _ _ (Prepares.Filled x full) is inside stripe honest on =
@@ -207,9 +207,9 @@ module _ (returning : Returning) (laws : LeadsReads returning) (before : List Ha
       (stripe_comes returning laws before rebuild stopped words kept x is t loaded x (none_asked x) stripe answer x y loads refl honest on)
 
   -- nothing is refused in it but an epoch of which no number is left to draw
-  pub prepares_refused : (answer : Result (Unit {0}) Refusal) (x z : Point) → Prepares t count cells loaded answer x z → ServesAt x x.told.history
+  pub prepares_refused : (answer : Result (Unit {0}) Refusal) (x z : Snapshot) → Prepares t count cells loaded answer x z → ServesAt x x.told.history
       → InStripe x → t < x.member.array.geometry.stripes → IsTrue z.told.honest
-      → IsCalmTo returning x.member.array.geometry before z.told.history → (refusal : Refusal) → answer ≡ Err refusal
+      → StaysWithinToleranceTo returning x.member.array.geometry before z.told.history → (refusal : Refusal) → answer ≡ Err refusal
       → refusal ≡ refused fence.EpochsSpent
   prepares_refused _ _ _ (Prepares.Filled x full) is inside stripe honest calm refusal same = absurd (cc)
   prepares_refused _ _ _ (Prepares.ByCells gathered was x y few loads none) is inside stripe honest calm refusal same = absurd (cc)

@@ -19,24 +19,24 @@ use Rattle.stair_member.specs.declared.fault.FenceFault.{FenceFault}
 use Rattle.stair_state.specs.Redoing.{AttachesNone, Done, IsRedoing, Redoing, Stage, next, writes_in}
 use Rattle.stair_state.specs.Represents.{AreSteady, IsLargeEnough}
 use Rattle.stair_state.proofs.StageLemmas.{written_in_range}
-use Rattle.stair_session.specs.Courses.{DoesStage, Fenced, IsOver, LeavesOut, NoneWas, Point, Redoes, point, stage_writes}
-use Rattle.stair_session.specs.InSession.{IsBesideEpochs}
-use Rattle.stair_session.specs.Leading.{IsAmidRedo, IsOpenAmid, led_to, rebuild_in}
-use Rattle.stair_session.specs.Opening.{StaysArray}
-use Rattle.stair_session.specs.Rebuilding.{Rebuild}
-use Rattle.stair_session.specs.Session.{IsLiveIn, IsOpenWith}
-use Rattle.stair_session.specs.UnderWay.{IsUnderWay}
-use Rattle.stair_session.proofs.AmidRedoLemmas.{redo_ends, redo_goes, redo_under_way}
-use Rattle.stair_session.proofs.BesideLemmas.{attached_on}
-use Rattle.stair_session.proofs.FencesLemmas.{stays_open}
-use Rattle.stair_session.proofs.HonestLemmas.{honest_first}
-use Rattle.stair_session.proofs.OpenWithLemmas.{beside_amid}
-use Rattle.stair_session.proofs.OwnPartLemmas.{stays_live}
-use Rattle.stair_session.proofs.RedoingLemmas.{out_ran, over_here, placed, redo_ran, stage_ran}
-use Rattle.stair_session.proofs.StageBesideLemmas.{over_alone, phase_beside}
-use Rattle.stair_session.proofs.StaysArrayLemmas.{redo_stays, stage_stays, stays_again}
-use Rattle.stair_session.proofs.SteadyEndLemmas.{fence_steady}
-use Rattle.stair_session.proofs.UnderWayLemmas.{way_ends, writes_same}
+use Rattle.stair_invariant.specs.Effects.{DoesStage, Fenced, IsOver, FencesGone, NoneWas, Snapshot, Redoes, snapshot, stage_writes}
+use Rattle.stair_invariant.specs.InSession.{IsBesideEpochs}
+use Rattle.stair_invariant.specs.Leading.{IsAmidRedo, IsOpenAmid, led_to, rebuild_in}
+use Rattle.stair_invariant.specs.Opening.{StaysArray}
+use Rattle.stair_invariant.specs.Rebuilding.{Rebuild}
+use Rattle.stair_invariant.specs.Session.{IsLiveIn, IsOpenWith}
+use Rattle.stair_invariant.specs.UnderWay.{IsUnderWay}
+use Rattle.stair_invariant.proofs.AmidRedoLemmas.{redo_ends, redo_goes, redo_under_way}
+use Rattle.stair_invariant.proofs.BesideLemmas.{attached_on}
+use Rattle.stair_invariant.proofs.FencesLemmas.{stays_open}
+use Rattle.stair_invariant.proofs.HonestLemmas.{honest_first}
+use Rattle.stair_invariant.proofs.OpenWithLemmas.{beside_amid}
+use Rattle.stair_invariant.proofs.OwnPartLemmas.{stays_live}
+use Rattle.stair_invariant.proofs.RedoingLemmas.{out_ran, over_here, placed, redo_ran, stage_ran}
+use Rattle.stair_invariant.proofs.StageBesideLemmas.{over_alone, phase_beside}
+use Rattle.stair_invariant.proofs.StaysArrayLemmas.{redo_stays, stage_stays, stays_again}
+use Rattle.stair_invariant.proofs.SteadyEndLemmas.{fence_steady}
+use Rattle.stair_invariant.proofs.UnderWayLemmas.{way_ends, writes_same}
 use Rattle.stair_array.proofs.CourseLemmas.{redo_part}
 use Rattle.stair_array.proofs.GoneToLemmas.{attaches_none}
 use Rattle.stair_array.proofs.LedOnLemmas.{led_again}
@@ -46,7 +46,7 @@ use Rattle.stair_array.proofs.ReadPartLemmas.{array_with}
 module _ (before : List Happening) (r : Redoing) (redoing : IsRedoing r) (stripe : Stripe)
     (cells : (i c : ℕ) → HasCell r.redo.cells i c → cell stripe i c ≡ cell (r.new r.redo.stripe) i c) (start : List Happening) where
   -- At a point of it the redo has come to this stage.
-  pub record IsAmid (stage : Stage) (rebuild : Option Rebuild) (stopped : Option FenceFault) (p : Point) : Type 0 where
+  pub record IsAmid (stage : Stage) (rebuild : Option Rebuild) (stopped : Option FenceFault) (p : Snapshot) : Type 0 where
     pub amid : IsAmidRedo r before (array_with rebuild stopped p) stage start p.told.history
     pub begun : IsBegun None p.member p.told.history
 
@@ -54,7 +54,7 @@ module _ (before : List Happening) (r : Redoing) (redoing : IsRedoing r) (stripe
   same_writes : (stage : Stage) → stage_writes r.geometry r.redo stripe stage ≡ stage_writes r.geometry r.redo (r.new r.redo.stripe) stage
   same_writes stage = writes_same r stripe stage cells ∙ sym (writes_same r (r.new r.redo.stripe) stage (λ i c has. refl))
 
-  stage_goes : (stage : Stage) (rebuild : Option Rebuild) (stopped_by : Option FenceFault) (to : Slots) (p y : Point) → IsOver stage p.member to
+  stage_goes : (stage : Stage) (rebuild : Option Rebuild) (stopped_by : Option FenceFault) (to : Slots) (p y : Snapshot) → IsOver stage p.member to
       → DoesStage (stage_writes r.geometry r.redo stripe stage) to None p y → IsTrue y.told.honest → NothingReturned before y.told.history
       → ¬ IsTrue (stopped y.told.history) → IsAmid stage rebuild stopped_by p → IsAmid (next stage) (rebuild_in y.member rebuild) None y
   stage_goes stage rebuild stopped_by to p y over does honest none going is =
@@ -63,13 +63,13 @@ module _ (before : List Happening) (r : Redoing) (redoing : IsRedoing r) (stripe
       (subst (λ (what : Writes). DoesStage what to None p y) (same_writes stage) does) honest is.amid is.begun none going in
       record { amid = then.0; begun = then.1 }
 
-  pub way : (stage : Stage) (rebuild : Option Rebuild) (stopped_by : Option FenceFault) (p : Point) → NothingReturned before p.told.history
+  pub way : (stage : Stage) (rebuild : Option Rebuild) (stopped_by : Option FenceFault) (p : Snapshot) → NothingReturned before p.told.history
       → ¬ IsTrue (stopped p.told.history) → IsAmid stage rebuild stopped_by p → IsUnderWay r stage start p.member p.told.history
   way stage rebuild stopped_by p none going is =
       redo_under_way r before (array_with rebuild stopped_by p) stage start p.told.history is.amid none going is.begun
 
   -- a stage that was done, and what the redo did after it
-  module _ (stage : Stage) (to : Slots) (refusal : Option FenceFault) (rebuild : Option Rebuild) (stopped_by : Option FenceFault) (p y z : Point)
+  module _ (stage : Stage) (to : Slots) (refusal : Option FenceFault) (rebuild : Option Rebuild) (stopped_by : Option FenceFault) (p y z : Snapshot)
       (over : IsOver stage p.member to) (does : DoesStage (stage_writes r.geometry r.redo stripe stage) to None p y)
       (more : Redoes r.geometry r.redo stripe (next stage) refusal y z) (honest : IsTrue z.told.honest) (none : NothingReturned before z.told.history)
       (going : ¬ IsTrue (stopped z.told.history)) (is : IsAmid stage rebuild stopped_by p) where
@@ -89,7 +89,7 @@ module _ (before : List Happening) (r : Redoing) (redoing : IsRedoing r) (stripe
 
   -- ITS END: the array serves the new stripes
 
-  pub redo_serves : (stage : Stage) (refusal : Option FenceFault) (p z : Point) → Redoes r.geometry r.redo stripe stage refusal p z → refusal ≡ None
+  pub redo_serves : (stage : Stage) (refusal : Option FenceFault) (p z : Snapshot) → Redoes r.geometry r.redo stripe stage refusal p z → refusal ≡ None
       → IsTrue z.told.honest → NothingReturned before z.told.history → ¬ IsTrue (stopped z.told.history) → (rebuild : Option Rebuild)
       (stopped_by : Option FenceFault) → IsAmid stage rebuild stopped_by p
       → IsOpenWith before (led_to (array_with rebuild stopped_by p) z.member) r.new z.told.history × IsBegun None z.member z.told.history
@@ -111,7 +111,7 @@ module _ (before : List Happening) (r : Redoing) (redoing : IsRedoing r) (stripe
   -- A PHASE, and what is left out after it
 
   module _ (stage : Stage) (not_done : stage ≢ Done) (to : Slots) (refusal : Option FenceFault) (rebuild : Option Rebuild)
-      (stopped_by : Option FenceFault) (p y : Point) (over : IsOver stage p.member to)
+      (stopped_by : Option FenceFault) (p y : Snapshot) (over : IsOver stage p.member to)
       (does : DoesStage (stage_writes r.geometry r.redo stripe stage) to refusal p y) (honest : IsTrue y.told.honest)
       (none : NothingReturned before y.told.history) (going : ¬ IsTrue (stopped y.told.history)) (is : IsAmid stage rebuild stopped_by p) where
     phase : Placed (writes_in r stage) (HasSlot to) (HasSlot does.gone) p.told.history does.mid.history
@@ -121,7 +121,7 @@ module _ (before : List Happening) (r : Redoing) (redoing : IsRedoing r) (stripe
     besides = phase_beside r redoing p.member stage (HasSlot to) (over_alone p.member to stage over) {gone = HasSlot does.gone} phase
 
     pub ran_out : Ran any_call does.mid.history y.told.history
-    ran_out = out_ran does.gone refusal (point p.member does.mid) y does.leaves honest
+    ran_out = out_ran does.gone refusal (snapshot p.member does.mid) y does.leaves honest
 
     pub to_mid : IsMoment before does.mid.history y.told.history
     to_mid =
@@ -162,7 +162,7 @@ module _ (before : List Happening) (r : Redoing) (redoing : IsRedoing r) (stripe
     attached_mid j attached =
         attached_on does.mid.history y.told.history j
         (ran_weakened {allowed = attaches_none} {more = AttachesNone (λ i. i ≡ j)} (λ i c may at. may)
-        ((out_after does.gone refusal (point p.member does.mid) y does.leaves).beside honest)) attached
+        ((out_after does.gone refusal (snapshot p.member does.mid) y does.leaves).beside honest)) attached
 
     pub stays_in : (j : ℕ) → IsLiveIn p.member j → IsAttached y.told.history j → ¬ HasSlot does.gone j
     stays_in j live attached has = by (mid_off j live has)
@@ -182,20 +182,20 @@ module _ (before : List Happening) (r : Redoing) (redoing : IsRedoing r) (stripe
   -- WHERE IT IS REFUSED
 
   -- the stage after which it was; each slot that was live at first and is attached in the end was live in it
-  pub record IsRefusedAfter (first : Point) (fault : FenceFault) (z : Point) : Type 0 where
+  pub record IsRefusedAfter (first : Snapshot) (fault : FenceFault) (z : Snapshot) : Type 0 where
     pub stage : Stage
     pub not_done : stage ≢ Done
     pub to : Slots
     pub rebuild : Option Rebuild
     pub stopped_by : Option FenceFault
-    pub point : Point
-    pub over : IsOver stage point.member to
-    pub does : DoesStage (stage_writes r.geometry r.redo stripe stage) to (Some fault) point z
-    pub is : IsAmid stage rebuild stopped_by point
-    pub stays : StaysArray first.member point.member
-    pub live : (j : ℕ) → IsLiveIn first.member j → IsAttached z.told.history j → IsLiveIn point.member j
+    pub snapshot : Snapshot
+    pub over : IsOver stage snapshot.member to
+    pub does : DoesStage (stage_writes r.geometry r.redo stripe stage) to (Some fault) snapshot z
+    pub is : IsAmid stage rebuild stopped_by snapshot
+    pub stays : StaysArray first.member snapshot.member
+    pub live : (j : ℕ) → IsLiveIn first.member j → IsAttached z.told.history j → IsLiveIn snapshot.member j
 
-  pub refused_after : (stage : Stage) (refusal : Option FenceFault) (p z : Point) → Redoes r.geometry r.redo stripe stage refusal p z
+  pub refused_after : (stage : Stage) (refusal : Option FenceFault) (p z : Snapshot) → Redoes r.geometry r.redo stripe stage refusal p z
       → (fault : FenceFault) → refusal ≡ Some fault → IsTrue z.told.honest → NothingReturned before z.told.history
       → ¬ IsTrue (stopped z.told.history) → (rebuild : Option Rebuild) (stopped_by : Option FenceFault) → IsAmid stage rebuild stopped_by p
       → IsRefusedAfter p fault z
@@ -206,7 +206,7 @@ module _ (before : List Happening) (r : Redoing) (redoing : IsRedoing r) (stripe
     to = to;
     rebuild = rebuild;
     stopped_by = stopped_by;
-    point = p;
+    snapshot = p;
     over = over;
     does =
         subst (λ (f : FenceFault). DoesStage (stage_writes r.geometry r.redo stripe stage) to (Some f) p y)
@@ -229,11 +229,11 @@ module _ (before : List Happening) (r : Redoing) (redoing : IsRedoing r) (stripe
         to = then.to;
         rebuild = then.rebuild;
         stopped_by = then.stopped_by;
-        point = then.point;
+        snapshot = then.snapshot;
         over = then.over;
         does = then.does;
         is = then.is;
-        stays = stays_again p.member y.member then.point.member first then.stays;
+        stays = stays_again p.member y.member then.snapshot.member first then.stays;
         live = λ j live attached.
             then.live j
             (live_still stage not_done to None rebuild stopped_by p y over does honest_at
@@ -245,16 +245,16 @@ module _ (before : List Happening) (r : Redoing) (redoing : IsRedoing r) (stripe
       }
 
   -- nothing is unsynced in superblock places then
-  pub refused_steady : (first : Point) (fault : FenceFault) (z : Point) → IsRefusedAfter first fault z → IsTrue z.told.honest
+  pub refused_steady : (first : Snapshot) (fault : FenceFault) (z : Snapshot) → IsRefusedAfter first fault z → IsTrue z.told.honest
       → NothingReturned before z.told.history → ¬ IsTrue (stopped z.told.history) → AreSteady r.geometry z.told.history
   refused_steady first fault z at honest none going = by at.does.leaves
     where
-      by : LeavesOut at.does.gone (Some fault) (point at.point.member at.does.mid) z → AreSteady r.geometry z.told.history
+      by : FencesGone at.does.gone (Some fault) (snapshot at.snapshot.member at.does.mid) z → AreSteady r.geometry z.told.history
       by (NoneWas out same fine) = absurd (let never : Some fault ≡ None = fine in cc)
       by (Fenced j has answer fine e) =
           subst (λ (g : Geometry). AreSteady g z.told.history) (sym at.is.amid.geometry)
-          (fence_steady at.does.gone at.point.member z.member answer at.does.mid z.told e
-          (mid_way at.stage at.not_done at.to (Some fault) at.rebuild at.stopped_by at.point z at.over at.does honest none going at.is).epoch.begun
-          (λ i was. (over_here at.stage at.point.member at.to at.over i (at.does.phase.among i was)).below) honest
+          (fence_steady at.does.gone at.snapshot.member z.member answer at.does.mid z.told e
+          (mid_way at.stage at.not_done at.to (Some fault) at.rebuild at.stopped_by at.snapshot z at.over at.does honest none going at.is).epoch.begun
+          (λ i was. (over_here at.stage at.snapshot.member at.to at.over i (at.does.phase.among i was)).below) honest
           (each_after none
-          (to_mid at.stage at.not_done at.to (Some fault) at.rebuild at.stopped_by at.point z at.over at.does honest none going at.is)) going)
+          (to_mid at.stage at.not_done at.to (Some fault) at.rebuild at.stopped_by at.snapshot z at.over at.does honest none going at.is)) going)

@@ -16,14 +16,14 @@ use Rattle.stair_member.specs.declared.fault.FenceFault.{FenceFault}
 use Rattle.stair_member.specs.declared.fault.FenceFault.TheVariants as fence
 use Rattle.stair_state.specs.Blocks.{AreOfOneStripe}
 use Rattle.stair_state.specs.State.{BlocksAre, Change, Content, State, changed_if}
-use Rattle.stair_session.specs.Courses.{Point, point}
-use Rattle.stair_session.specs.InSession.{state_with}
-use Rattle.stair_session.specs.Leading.{led_to}
-use Rattle.stair_session.specs.Opening.{StaysArray}
-use Rattle.stair_session.specs.Returning.{IsCalm, Returning, StandsFor}
-use Rattle.stair_session.specs.SeatSteps.{EachMayDrop}
-use Rattle.stair_session.specs.Session.{seats_in}
-use Rattle.stair_session.proofs.Serving.{IsCalmTo, IsServing, LeadsReads, LeadsRedos}
+use Rattle.stair_invariant.specs.Effects.{Snapshot, snapshot}
+use Rattle.stair_invariant.specs.InSession.{state_with}
+use Rattle.stair_invariant.specs.Leading.{led_to}
+use Rattle.stair_invariant.specs.Opening.{StaysArray}
+use Rattle.stair_invariant.specs.Returning.{StaysWithinTolerance, Returning, StandsFor}
+use Rattle.stair_invariant.specs.SeatSteps.{EachMayDrop}
+use Rattle.stair_invariant.specs.Session.{seats_in}
+use Rattle.stair_invariant.proofs.Serving.{StaysWithinToleranceTo, IsServing, LeadsReads, LeadsRedos}
 use Rattle.stair_array.specs.Calls.{refused}
 use Rattle.stair_array.specs.Machine.{Answer, CutWithin, Gone, HoldsAfter, InDoubt, IsAsItWas, IsFinal, PassesTests, Recover, Refusal, Row, TooFew, WasBegun, WriteBlocks}
 use Rattle.stair_array.specs.Promise.{IsInState, IsLed, IsLeftBy, IsOpenFor, Keeps, Performs, Seen, is_open}
@@ -49,8 +49,8 @@ module _ (returning : Returning) (laws : LeadsReads returning) (redos : LeadsRed
   pub serves : IsServing returning before (forgetting p.was) begins.words s.content x.told.history
   serves = serves_bare returning laws (WriteBlocks first contents) no_opening answer events x y p before s state history
 
-  pub calm_begun : (h : List Happening) → IsCalm returning s.geometry (is_open x.session) before h
-      → IsCalmTo returning p.was.member.array.geometry before h
+  pub calm_begun : (h : List Happening) → StaysWithinTolerance returning s.geometry (is_open x.session) before h
+      → StaysWithinToleranceTo returning p.was.member.array.geometry before h
   calm_begun = calm_first returning laws (WriteBlocks first contents) no_opening answer events x y p before s state
 
   -- by the tests of an array that may be written
@@ -96,9 +96,9 @@ module _ (returning : Returning) (laws : LeadsReads returning) (redos : LeadsRed
   abbrev set_content : Content
   set_content = changed_if (written first contents) s.content
 
-  led : (given : Answer (WriteBlocks first contents)) (v : Point) → v ≡ point p.is.member y.told → given ≡ answer
-      → Outcome returning before p.was.rebuild p.was.stopped begins.words s.content first contents (point p.was.member x.told) given v
-      → IsCalmTo returning p.was.member.array.geometry before y.told.history
+  led : (given : Answer (WriteBlocks first contents)) (v : Snapshot) → v ≡ snapshot p.is.member y.told → given ≡ answer
+      → Outcome returning before p.was.rebuild p.was.stopped begins.words s.content first contents (snapshot p.was.member x.told) given v
+      → StaysWithinToleranceTo returning p.was.member.array.geometry before y.told.history
       → IsLed returning p.was.member before s (WriteBlocks first contents) answer y
   led _ _ at is_answer (Stopped fault v doubt writes may is) calm =
       let now : State = state_with p.was.member s.content doubt is.array in
@@ -114,7 +114,7 @@ module _ (returning : Returning) (laws : LeadsReads returning) (redos : LeadsRed
         };
         is_in =
             stops_as returning laws (WriteBlocks first contents) no_opening answer events x y p before s state now
-            (subst (λ (u : Point). StandsFor returning now u.told.history) at is.stands)
+            (subst (λ (u : Snapshot). StandsFor returning now u.told.history) at is.stands)
             (kept_fault (Unit {0}) fault p.is.stopped
             (subst (λ (r : Answer (WriteBlocks first contents)). Keeps r p.is.stopped) (sym is_answer)
             (goes_on_as returning laws (WriteBlocks first contents) no_opening answer events x y p before s state).1));
@@ -122,7 +122,7 @@ module _ (returning : Returning) (laws : LeadsReads returning) (redos : LeadsRed
   led _ _ at is_answer (Refused refusal v serves_on stays not_final) calm =
       let last : Membership = p.is.member in
       let now : State = state_with last s.content None last.array in
-      let stays_y : StaysArray p.was.member last = subst (λ (u : Point). StaysArray p.was.member u.member) at stays in
+      let stays_y : StaysArray p.was.member last = subst (λ (u : Snapshot). StaysArray p.was.member u.member) at stays in
       record {
         state = now;
         is_step = record {
@@ -135,13 +135,13 @@ module _ (returning : Returning) (laws : LeadsReads returning) (redos : LeadsRed
         };
         is_in =
             serves_as returning laws (WriteBlocks first contents) no_opening answer events x y p before s state begins.words s.content stays_y
-            (subst (λ (u : Point). IsServing returning before (led_to p.was u.member) begins.words s.content u.told.history) at serves_on) p.rebuild
+            (subst (λ (u : Snapshot). IsServing returning before (led_to p.was u.member) begins.words s.content u.told.history) at serves_on) p.rebuild
             (forgotten_in begins.words p.is.remembered p.remembers) calm;
       }
   led _ _ at is_answer (Written v writes is) calm =
       let last : Membership = p.is.member in
       let now : State = state_with last set_content None last.array in
-      let stays_y : StaysArray p.was.member last = subst (λ (u : Point). StaysArray p.was.member u.member) at is.stays in
+      let stays_y : StaysArray p.was.member last = subst (λ (u : Snapshot). StaysArray p.was.member u.member) at is.stays in
       record {
         state = now;
         is_step = record {
@@ -154,17 +154,17 @@ module _ (returning : Returning) (laws : LeadsReads returning) (redos : LeadsRed
         };
         is_in =
             serves_as returning laws (WriteBlocks first contents) no_opening answer events x y p before s state is.new set_content stays_y
-            (subst (λ (u : Point). IsServing returning before (led_to p.was u.member) is.new set_content u.told.history) at is.serves) p.rebuild
+            (subst (λ (u : Snapshot). IsServing returning before (led_to p.was u.member) is.new set_content u.told.history) at is.serves) p.rebuild
             (forgotten_in is.new p.is.remembered p.remembers) calm;
       }
 
-  pub leads : IsCalm returning s.geometry (is_open x.session) before y.told.history
+  pub leads : StaysWithinTolerance returning s.geometry (is_open x.session) before y.told.history
       → IsLed returning p.was.member before s (WriteBlocks first contents) answer y
   leads calm =
       let here = calm_begun y.told.history calm in
-      led answer (point p.is.member y.told) refl refl
-      (outcome returning laws before p.was.rebuild p.was.stopped begins.words s.content first contents redos answer (point p.was.member x.told)
-      (point p.is.member y.told) p.does serves honest here) here
+      led answer (snapshot p.is.member y.told) refl refl
+      (outcome returning laws before p.was.rebuild p.was.stopped begins.words s.content first contents redos answer (snapshot p.was.member x.told)
+      (snapshot p.is.member y.told) p.does serves honest here) here
 
   -- WHAT A CRASH LEAVES
 
@@ -182,13 +182,13 @@ module _ (returning : Returning) (laws : LeadsReads returning) (redos : LeadsRed
             (held (TooFew []) tt array (Some (BlocksAre first contents)) (Doubtful writes)) refl drops,
       )
 
-  pub cuts : (c : List Happening) → IsMoment x.told.history c y.told.history → IsCalm returning s.geometry (is_open x.session) before c
+  pub cuts : (c : List Happening) → IsMoment x.told.history c y.told.history → StaysWithinTolerance returning s.geometry (is_open x.session) before c
       → EachImage (IsLeftBy returning (WriteBlocks first contents) p.was.member before c s) c
   cuts c at calm image left =
       let is =
       at_moment {P = StandsWith returning before p.was.rebuild p.was.stopped begins.words s.content first contents p.was.member}
-      (moments returning laws before p.was.rebuild p.was.stopped begins.words s.content first contents redos answer (point p.was.member x.told)
-      (point p.is.member y.told) p.does serves honest) at (calm_begun c calm) image left in
+      (moments returning laws before p.was.rebuild p.was.stopped begins.words s.content first contents redos answer (snapshot p.was.member x.told)
+      (snapshot p.is.member y.told) p.does serves honest) at (calm_begun c calm) image left in
       record {
         state = state_with p.was.member s.content is.doubt is.is.array;
         cut = record {

@@ -23,20 +23,20 @@ use Rattle.stair_journal.specs.declared.redo.Redo.{Redo}
 use Rattle.stair_state.specs.Blocks.{Codewords}
 use Rattle.stair_state.specs.Redoing.{AtRest, Redoing, AttachesNone, next}
 use Rattle.stair_state.specs.State.{Content, State}
-use Rattle.stair_session.specs.Courses.{Point, Redoes, point}
-use Rattle.stair_session.specs.CutOff.{IsStillThere}
-use Rattle.stair_session.specs.Leading.{rebuild_in, led_to}
-use Rattle.stair_session.specs.Rebuilding.{Rebuild}
-use Rattle.stair_session.specs.Returning.{NoneReturns}
-use Rattle.stair_session.specs.Session.{IsLiveIn, seats_in}
-use Rattle.stair_session.proofs.AmidRedoLemmas.{redo_begins}
-use Rattle.stair_session.proofs.BesideLemmas.{attached_on}
-use Rattle.stair_session.proofs.ChangingLemmas.{live_here}
-use Rattle.stair_session.proofs.RedoingLemmas.{over_here}
-use Rattle.stair_session.proofs.StaysArrayLemmas.{stays_again}
-use Rattle.stair_session.proofs.RedoingLemmas.{over_here}
-use Rattle.stair_session.proofs.Serving.{IsGoing, IsServing, redoing_of}
-use Rattle.stair_session.proofs.StaysArrayLemmas.{stays_again}
+use Rattle.stair_invariant.specs.Effects.{Snapshot, Redoes, snapshot}
+use Rattle.stair_invariant.specs.CutOff.{IsStillThere}
+use Rattle.stair_invariant.specs.Leading.{rebuild_in, led_to}
+use Rattle.stair_invariant.specs.Rebuilding.{Rebuild}
+use Rattle.stair_invariant.specs.Returning.{NoneReturns}
+use Rattle.stair_invariant.specs.Session.{IsLiveIn, seats_in}
+use Rattle.stair_invariant.proofs.AmidRedoLemmas.{redo_begins}
+use Rattle.stair_invariant.proofs.BesideLemmas.{attached_on}
+use Rattle.stair_invariant.proofs.ChangingLemmas.{live_here}
+use Rattle.stair_invariant.proofs.RedoingLemmas.{over_here}
+use Rattle.stair_invariant.proofs.StaysArrayLemmas.{stays_again}
+use Rattle.stair_invariant.proofs.RedoingLemmas.{over_here}
+use Rattle.stair_invariant.proofs.Serving.{IsGoing, IsServing, redoing_of}
+use Rattle.stair_invariant.proofs.StaysArrayLemmas.{stays_again}
 use Rattle.stair_array.specs.Calls.{WritesBlocks, answer_of}
 use Rattle.stair_array.specs.Machine.{Frozen, IsFinal, OutOfRange, Refusal, WriteBlocks, Recover}
 use Rattle.stair_array.specs.Promise.{IsInState, Performs, Seen, IsOpenFor}
@@ -57,13 +57,13 @@ use Rattle.stair_array.proofs.WriteRedoLemmas.{IsAmid, IsRefusedAfter, mid_amid,
 module _ (before : List Happening) (rebuild : Option Rebuild) (stopped_by : Option FenceFault) (words : Codewords) (kept : Content) (first : ℕ)
     (contents : List (List ℕ)) where
   -- by some epoch it was
-  pub record IsStopped (x z : Point) : Type 0 where
+  pub record IsStopped (x z : Snapshot) : Type 0 where
     pub fault : FenceFault
     pub refused : IsRefusedIn before kept first contents x.member fault z
 
   -- WHERE A REDO WAS REFUSED, whatever has failed
 
-  module _ (new : Codewords) (redo : Redo) (stripe : Stripe) (x y : Point)
+  module _ (new : Codewords) (redo : Redo) (stripe : Stripe) (x y : Snapshot)
       (starts : Begins NoneReturns before rebuild stopped_by words new kept (written first contents) redo stripe x y) (live_y : LiveStill x y) where
     abbrev r : Redoing
     r = redoing_of (array_with rebuild stopped_by x) words new redo
@@ -75,10 +75,10 @@ module _ (before : List Happening) (rebuild : Option Rebuild) (stopped_by : Opti
       begun = starts.serves.knows;
     }
 
-    refused_in : (fault : FenceFault) (z : Point) → Redoes x.member.array.geometry redo stripe AtRest (Some fault) y z → IsTrue z.told.honest
+    refused_in : (fault : FenceFault) (z : Snapshot) → Redoes x.member.array.geometry redo stripe AtRest (Some fault) y z → IsTrue z.told.honest
         → IsGoing NoneReturns x.member.array.geometry before z.told.history → IsRefusedIn before kept first contents x.member fault z
     refused_in fault z run honest on = record {
-      array = array_with at.rebuild at.stopped_by at.point;
+      array = array_with at.rebuild at.stopped_by at.snapshot;
       mid = at.does.mid;
       gone = at.does.gone;
       leaves = at.does.leaves;
@@ -88,22 +88,22 @@ module _ (before : List Happening) (rebuild : Option Rebuild) (stopped_by : Opti
       begun = inr starts.redoing;
       way =
           mid_way before r starts.redoing stripe starts.cells y.told.history at.stage at.not_done at.to
-          (Some fault) at.rebuild at.stopped_by at.point z at.over at.does
+          (Some fault) at.rebuild at.stopped_by at.snapshot z at.over at.does
           honest on.0 on.1 at.is;
       amid =
           mid_amid before r starts.redoing stripe starts.cells y.told.history at.stage at.not_done at.to
-          (Some fault) at.rebuild at.stopped_by at.point z at.over at.does
+          (Some fault) at.rebuild at.stopped_by at.snapshot z at.over at.does
           honest on.0 on.1 at.is;
       change = written first contents;
       is_write = inr refl;
       of =
-          of_redo NoneReturns before rebuild stopped_by words new kept (written first contents) redo stripe x y starts at.point.member
-          (stays_again x.member y.member at.point.member starts.stays at.stays);
-      stays = stays_again x.member y.member at.point.member starts.stays at.stays;
-      here = λ j has. over_here at.stage at.point.member at.to at.over j (at.does.phase.among j has);
+          of_redo NoneReturns before rebuild stopped_by words new kept (written first contents) redo stripe x y starts at.snapshot.member
+          (stays_again x.member y.member at.snapshot.member starts.stays at.stays);
+      stays = stays_again x.member y.member at.snapshot.member starts.stays at.stays;
+      here = λ j has. over_here at.stage at.snapshot.member at.to at.over j (at.does.phase.among j has);
       off =
           mid_off before r starts.redoing stripe starts.cells y.told.history at.stage at.not_done at.to
-          (Some fault) at.rebuild at.stopped_by at.point z at.over at.does
+          (Some fault) at.rebuild at.stopped_by at.snapshot z at.over at.does
           honest on.0 on.1 at.is;
       live = λ j live attached. at.live j (live_y j live (attached_y j attached)) attached;
     }
@@ -123,8 +123,8 @@ module _ (before : List Happening) (rebuild : Option Rebuild) (stopped_by : Opti
 
   -- ALL OF IT
 
-  unready_stopped : (x : Point) (t : ℕ) (cells : CellSet) (loaded : Stripe) (u : Point) → IsTrue u.told.honest
-      → IsGoing NoneReturns x.member.array.geometry before u.told.history → (refusal : Refusal) (answer : Result (Unit {0}) Refusal) (y : Point)
+  unready_stopped : (x : Snapshot) (t : ℕ) (cells : CellSet) (loaded : Stripe) (u : Snapshot) → IsTrue u.told.honest
+      → IsGoing NoneReturns x.member.array.geometry before u.told.history → (refusal : Refusal) (answer : Result (Unit {0}) Refusal) (y : Snapshot)
       → Comes NoneReturns before rebuild stopped_by words kept (IsKnown words t (length contents) cells loaded x) x answer y → y ≡ u
       → answer ≡ Err refusal → IsFinal refusal → IsStopped x y
   unready_stopped x t cells loaded u honest on refusal _ _ (Comes.Has y serves stays live known) ends same final = absurd (cc)
@@ -133,11 +133,11 @@ module _ (before : List Happening) (rebuild : Option Rebuild) (stopped_by : Opti
   unready_stopped x t cells loaded u honest on refusal _ _ (Comes.Stops fault y at) ends same final = record {
     fault = fault;
     refused =
-        rest_refused before words kept first contents x.member fault y at (subst (λ (p : Point). IsTrue p.told.honest) (sym ends) honest)
-        (subst (λ (p : Point). IsGoing NoneReturns x.member.array.geometry before p.told.history) (sym ends) on);
+        rest_refused before words kept first contents x.member fault y at (subst (λ (p : Snapshot). IsTrue p.told.honest) (sym ends) honest)
+        (subst (λ (p : Snapshot). IsGoing NoneReturns x.member.array.geometry before p.told.history) (sym ends) on);
   }
 
-  pub was_stopped : (answer : Result (Unit {0}) Refusal) (x z : Point) → WritesBlocks first contents answer x z
+  pub was_stopped : (answer : Result (Unit {0}) Refusal) (x z : Snapshot) → WritesBlocks first contents answer x z
       → Serves NoneReturns before rebuild stopped_by words kept x x.told.history → IsTrue z.told.honest
       → IsGoing NoneReturns x.member.array.geometry before z.told.history → (refusal : Refusal)
       → answer ≡ Err refusal → IsFinal refusal → IsStopped x z
@@ -243,9 +243,9 @@ module _ (first : ℕ) (contents : List (List ℕ)) (refusal : Refusal) (events 
   left_over =
       let stops =
       was_stopped before p.was.rebuild p.was.stopped begins_here.words s.content first contents
-      (Err refusal) (point m x.told) (point p.is.member y.told) p.does
+      (Err refusal) (snapshot m x.told) (snapshot p.is.member y.told) p.does
       serves_here honest on refusal refl final in
       subst (λ (of : Seats). IsCutOffIn first contents s of y.told.history) same_seats
-      (cut_off before s.content first contents m stops.fault (point p.is.member y.told) stops.refused honest on held still_here s
+      (cut_off before s.content first contents m stops.fault (snapshot p.is.member y.told) stops.refused honest on held still_here s
       (sym begins_here.geometry) refl
       begins_here.certain)

@@ -11,16 +11,16 @@ use Rattle.stair_model.specs.Geometry.{Geometry, block_count, data_cells}
 use Rattle.stair_model.specs.Stripe.{IsSector, SECTOR, Stripe}
 use Rattle.stair_rack.specs.RackCounts.{RisesAtMost}
 use Rattle.stair_rack.specs.Sector.{Damaged}
-use Rattle.stair_rack.specs.Telling.{IsLater, Telling}
+use Rattle.stair_rack.specs.RackState.{IsLater, RackState}
 use Rattle.stair_rack.proofs.GoneLemmas.{is_gone_wider}
-use Rattle.stair_rack.proofs.TellingLemmas.{later_none, reading_wider}
+use Rattle.stair_rack.proofs.RackStateLemmas.{later_none, reading_wider}
 use Rattle.stair_super.specs.declared.configuration.Configuration.{Configuration}
 use Rattle.stair_member.specs.declared.fault.FenceFault.{FenceFault}
 use Rattle.stair_journal.specs.Redo.{IsRedo}
 use Rattle.stair_journal.specs.declared.redo.Redo.{Redo}
 use Rattle.stair_state.specs.Blocks.{AreOfOneStripe}
 use Rattle.stair_state.specs.Redoing.{AtRest}
-use Rattle.stair_session.specs.Courses.{Point, Redoes}
+use Rattle.stair_invariant.specs.Effects.{Snapshot, Redoes}
 use Rattle.stair_array.specs.Arrays.{LacksOne, blocks_of, outcome}
 use Rattle.stair_array.specs.Calls.{AreInPlace, AreOfBlocks, AreSet, Prepares, WritesBlocks, answer_of}
 use Rattle.stair_array.specs.Faults.{array_fault, refusal_for}
@@ -35,7 +35,7 @@ use Rattle.stair_array.proofs.ReadingLemmas.{epoch_answer}
 -- IN MEMORY
 
 -- blocks that fill the stripe were put into it
-pub filled_ready : (x : Point) (g : Geometry) (redo : Redo) (first : ℕ) (contents : List (List ℕ)) (stripe loaded : Stripe)
+pub filled_ready : (x : Snapshot) (g : Geometry) (redo : Redo) (first : ℕ) (contents : List (List ℕ)) (stripe loaded : Stripe)
     → g ≡ x.member.array.geometry → redo.stripe ≡ first / data_cells x.member.array.geometry → length contents ≡ data_cells g
     → ((cells : CellSet) (was : Stripe) → AreSet g (first / data_cells g) first contents cells was stripe)
     → Readies redo first contents stripe (Ok tt) x x
@@ -47,7 +47,7 @@ filled_ready x g redo first contents stripe loaded same at full set = (
 )
 
 -- or were set in it
-pub set_ready : (x y : Point) (g : Geometry) (redo : Redo) (first : ℕ) (contents : List (List ℕ)) (loaded stripe : Stripe)
+pub set_ready : (x y : Snapshot) (g : Geometry) (redo : Redo) (first : ℕ) (contents : List (List ℕ)) (loaded stripe : Stripe)
     → g ≡ x.member.array.geometry → AreOfBlocks x.member.array.geometry first (length contents) redo.cells
     → length contents < data_cells x.member.array.geometry
     → ((count : ℕ) → count < data_cells x.member.array.geometry → Prepares redo.stripe count redo.cells loaded (Ok tt) x y)
@@ -76,15 +76,15 @@ are_in_place array g redo first contents same below thawed sectors together form
   change = subst (λ (h : Geometry). AreOfBlocks h first (length contents) redo.cells) same of;
 }
 
-module _ (x : Point) (redo : Redo) (first : ℕ) (contents : List (List ℕ)) (place : AreInPlace x.member.array first contents redo.stripe redo.cells) where
-  pub unready : (y : Point) (stripe : Stripe) (fault : ArrayFault) (result : Result (Unit {0}) ArrayFault) → IsErrAnd result (λ e. e ≡ fault)
+module _ (x : Snapshot) (redo : Redo) (first : ℕ) (contents : List (List ℕ)) (place : AreInPlace x.member.array first contents redo.stripe redo.cells) where
+  pub unready : (y : Snapshot) (stripe : Stripe) (fault : ArrayFault) (result : Result (Unit {0}) ArrayFault) → IsErrAnd result (λ e. e ≡ fault)
       → Readies redo first contents stripe (Err (refusal_for fault)) x y → WritesBlocks first contents (outcome result) x y
   unready y stripe fault (Ok done) is ready = absurd is
   unready y stripe fault (Err e) same ready =
       subst (λ (f : ArrayFault). WritesBlocks first contents (Err (refusal_for f)) x y) (sym same)
       (WritesBlocks.Unready redo.stripe redo.cells ready.0 (refusal_for fault) x y place ready.1)
 
-  module _ (formed : IsRedo x.member.array.geometry redo) (y z : Point) (stripe : Stripe) (same : y.member.array.geometry ≡ x.member.array.geometry)
+  module _ (formed : IsRedo x.member.array.geometry redo) (y z : Snapshot) (stripe : Stripe) (same : y.member.array.geometry ≡ x.member.array.geometry)
       (ready : Readies redo first contents stripe (Ok tt) x y) where
     done : (refusal : Option FenceFault) → Redoes y.member.array.geometry redo stripe AtRest refusal y z
         → WritesBlocks first contents (answer_of tt refusal) x z
@@ -101,7 +101,7 @@ module _ (x : Point) (redo : Redo) (first : ℕ) (contents : List (List ℕ)) (p
         subst (λ (a : Result (Unit {0}) Refusal). WritesBlocks first contents a x z) (sym (epoch_answer result fault is)) (done (Some fault) run)
 
 -- no block has this number
-pub written_past : (first : ℕ) (contents : List (List ℕ)) (x : Point) (fault : ArrayFault) (result : Result (Unit {0}) ArrayFault)
+pub written_past : (first : ℕ) (contents : List (List ℕ)) (x : Snapshot) (fault : ArrayFault) (result : Result (Unit {0}) ArrayFault)
     → block_count x.member.array.geometry ≤ first → fault ≡ array.OutOfRange first (block_count x.member.array.geometry)
     → IsErrAnd result (λ e. e ≡ fault) → WritesBlocks first contents (outcome result) x x
 written_past first contents x fault (Ok done) past is told = absurd told
@@ -110,7 +110,7 @@ written_past first contents x fault (Err e) past is same =
 
 -- ITS READS
 
-lacks_wider : (t : ℕ) (cells : CellSet) (x : Point) (mid now : Telling) → IsLater x.told mid → IsAfter mid now → LacksOne t cells x mid
+lacks_wider : (t : ℕ) (cells : CellSet) (x : Snapshot) (mid now : RackState) → IsLater x.told mid → IsAfter mid now → LacksOne t cells x mid
     → LacksOne t cells x now
 lacks_wider t cells x mid now first rest (LacksOne.NotLive i j has away) = LacksOne.NotLive i j has away
 lacks_wider t cells x mid now first rest (LacksOne.WasBad i j has bad) =
@@ -121,14 +121,14 @@ lacks_wider t cells x mid now first rest (LacksOne.WasGone i j has gone) =
     (is_gone_wider {allowed = attaches_none} x.told x.told mid now (later_none x.told) first.honest first.counts rest.later j (λ c beside. beside)
     rest.beside gone)
 
-lacks_same : (t : ℕ) (a b : CellSet) (x : Point) (now : Telling) → ((i j : ℕ) → HasCell a i j → HasCell b i j) → LacksOne t a x now
+lacks_same : (t : ℕ) (a b : CellSet) (x : Snapshot) (now : RackState) → ((i j : ℕ) → HasCell a i j → HasCell b i j) → LacksOne t a x now
     → LacksOne t b x now
 lacks_same t a b x now more (LacksOne.NotLive i j has away) = LacksOne.NotLive i j (more i j has) away
 lacks_same t a b x now more (LacksOne.WasBad i j has bad) = LacksOne.WasBad i j (more i j has) bad
 lacks_same t a b x now more (LacksOne.WasGone i j has gone) = LacksOne.WasGone i j (more i j has) gone
 
 -- each of the cells was read once, or one of them couldn't be had: whichever set has them, and also later, where nothing more was read
-pub reads_once : (g : Geometry) (first count t u : ℕ) (a b : CellSet) (x : Point) (mid now : Telling) (o m n : Option ℕ) → t ≡ u
+pub reads_once : (g : Geometry) (first count t u : ℕ) (a b : CellSet) (x : Snapshot) (mid now : RackState) (o m n : Option ℕ) → t ≡ u
     → AreOfBlocks g first count a → AreOfBlocks g first count b → IsLater x.told mid → IsAfter mid now → n ≡ m
     → RisesAtMost (cell_count a) o m ⊎ LacksOne t a x mid → RisesAtMost (cell_count b) o n ⊎ LacksOne u b x now
 reads_once g first count t u a b x mid now o m n at of_a of_b before rest same (inl few) =
@@ -158,6 +158,6 @@ one_block bytes is =
     ap (λ (n : ℕ). first_chunks SECTOR (n / SECTOR) bytes) is
     ∙ ap (λ (l : List ℕ). l ∷ []) (take_all SECTOR bytes (omega (arith, is)))
 
-pub frozen_write : (first : ℕ) (contents : List (List ℕ)) (x : Point) → first < block_count x.member.array.geometry
+pub frozen_write : (first : ℕ) (contents : List (List ℕ)) (x : Snapshot) → first < block_count x.member.array.geometry
     → IsTrue x.member.array.frozen → WritesBlocks first contents (Err Frozen) x x
 frozen_write first contents x below frozen = WritesBlocks.IsFrozen x below frozen

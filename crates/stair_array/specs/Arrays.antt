@@ -6,12 +6,12 @@ use Rattle.stair_model.specs.Device.{cell_sector}
 use Rattle.stair_model.specs.Geometry.{Geometry, data_cells}
 use Rattle.stair_model.specs.Stripe.{SECTOR, Stripe}
 use Rattle.stair_rack.specs.Sector.{Damaged}
-use Rattle.stair_rack.specs.Telling.{IsGone, IsLater, IsReading, Telling}
+use Rattle.stair_rack.specs.RackState.{IsGone, IsLater, IsReading, RackState}
 use Rattle.stair_member.specs.Membership.{Membership}
 use Rattle.stair_member.specs.declared.fault.FenceFault.{FenceFault}
-use Rattle.stair_session.specs.Courses.{Point, point}
-use Rattle.stair_session.specs.Rebuilding.{Rebuild}
-use Rattle.stair_session.specs.Session.{ArrayState, IsLiveIn, IsRebuiltIn, Remembered}
+use Rattle.stair_invariant.specs.Effects.{Snapshot, snapshot}
+use Rattle.stair_invariant.specs.Rebuilding.{Rebuild}
+use Rattle.stair_invariant.specs.Session.{ArrayState, IsLiveIn, IsRebuiltIn, Remembered}
 use Rattle.stair_array.specs.Calls.{CannotHave, IsInPlace}
 use Rattle.stair_array.specs.Faults.{opening_refusal, rebuild_refusal, refusal_for, replace_refusal}
 use Rattle.stair_array.specs.Machine.{Chunk, Dropped, Nothing, Promoted, Refusal, Progress as Came}
@@ -47,10 +47,10 @@ abbrev pub IsOfRemembered : Geometry → Option Remembered → ℕ → Type 0
 IsOfRemembered g known b = (one : Remembered) × (known ≡ Some one) × (one.stripe ≡ b / data_cells g)
 
 -- An array was opened, or why it wasn't is told by what was known of its slots in the end. Lack of memory is no refusal.
-abbrev pub Opens : Point → Telling → Result OpenArray RecoverFault → Type 0
-Opens x now (Ok array) = Recovers (Ok x.member.array.geometry) x (point array.member now)
+abbrev pub Opens : Snapshot → RackState → Result OpenArray RecoverFault → Type 0
+Opens x now (Ok array) = Recovers (Ok x.member.array.geometry) x (snapshot array.member now)
 Opens x now (Err fault) = (refusal : Refusal) → opening_refusal fault ≡ Some refusal
-    → (last : Membership) × Recovers (Err refusal) x (point last now)
+    → (last : Membership) × Recovers (Err refusal) x (snapshot last now)
 
 -- what a call of an open array answered, which gave this
 abbrev pub answer_as : {T : Type 0} → T → Result (Unit {0}) ArrayFault → Result T Refusal
@@ -91,17 +91,17 @@ abbrev pub cells_of : Geometry → ℕ
 cells_of g = g.r * g.n
 
 -- the own cell of block b couldn't be had at a moment from x on
-pub record LacksCell (b : ℕ) (x : Point) (now : Telling) : Type 0 where
+pub record LacksCell (b : ℕ) (x : Snapshot) (now : RackState) : Type 0 where
   pub stripe : ℕ
   pub row : ℕ
   pub chunk : ℕ
-  pub mid : Telling
+  pub mid : RackState
   pub place : IsInPlace x.member.array.geometry b stripe row chunk
-  pub cannot : CannotHave stripe row chunk x (point x.member mid)
+  pub cannot : CannotHave stripe row chunk x (snapshot x.member mid)
   pub later : IsLater mid now
 
 -- one of these cells of stripe t couldn't be had on the way from x: its slot isn't live, it read as bad, or its slot was gone
-pub data LacksOne (t : ℕ) (cells : CellSet) (x : Point) (now : Telling) : Type 0 where
+pub data LacksOne (t : ℕ) (cells : CellSet) (x : Snapshot) (now : RackState) : Type 0 where
   NotLive : (i j : ℕ) → HasCell cells i j → ¬ IsLiveIn x.member j → LacksOne t cells x now
   WasBad : (i j : ℕ) → HasCell cells i j
       → IsReading j (cell_sector x.member.array.geometry t i) x.told now Damaged

@@ -12,7 +12,7 @@ use Rattle.stair_model.specs.Stripe.{IsSector, IsStripeOf, IsWellFormed, Stripe,
 use Rattle.stair_rack.specs.Answers.{Calls}
 use Rattle.stair_rack.specs.History.{Read}
 use Rattle.stair_rack.specs.Sector.{Damaged, Good}
-use Rattle.stair_rack.specs.Telling.{IsGone, IsLater, IsReading}
+use Rattle.stair_rack.specs.RackState.{IsGone, IsLater, IsReading}
 use Rattle.stair_rack.specs.declared.rack.Got.{Got}
 use Rattle.stair_rack.specs.declared.rack.Got.TheVariants as got
 use Rattle.stair_super.specs.declared.configuration.Configuration.{Configuration}
@@ -24,8 +24,8 @@ use Rattle.stair_stripes.specs.Gathering.{IsCellOf}
 use Rattle.stair_stripes.specs.declared.gathering.Gathered.{Gathered}
 use Rattle.stair_state.specs.Blocks.{AreOfOneStripe, IsSetFrom}
 use Rattle.stair_state.specs.Redoing.{AtRest}
-use Rattle.stair_session.specs.Courses.{Loads, Point, Redoes}
-use Rattle.stair_session.specs.Session.{IsLiveIn, Remembered}
+use Rattle.stair_invariant.specs.Effects.{Loads, Snapshot, Redoes}
+use Rattle.stair_invariant.specs.Session.{IsLiveIn, Remembered}
 use Rattle.stair_array.specs.Machine.{EpochsSpent, Frozen, Lost, OutOfRange, Refusal, TooFew}
 
 -- the refusal of an epoch as one of a step
@@ -50,20 +50,20 @@ IsLoaded g t erased read into (Err refusal) = (¬ IsCovered g erased)
     × ((j : ℕ) → j < 32 → slice_index counts j ≡ count_in_slot erased j))
 
 -- stripe t is gathered whole and restored
-pub data LoadsStripe (t : ℕ) (into : Stripe) : Result (Unit {0}) Refusal → Point → Point → Type 0
+pub data LoadsStripe (t : ℕ) (into : Stripe) : Result (Unit {0}) Refusal → Snapshot → Snapshot → Type 0
   where
     Loaded : (was read : Stripe) (gathered : Gathered) (answer : Result (Unit {0}) Refusal)
-        (x y : Point) → Loads t (IsCellOf x.member.array.geometry) gathered was read None x y
+        (x y : Snapshot) → Loads t (IsCellOf x.member.array.geometry) gathered was read None x y
         → IsLoaded x.member.array.geometry t gathered.erased read into answer
         → LoadsStripe t into answer x y
-    Stops : (was read : Stripe) (gathered : Gathered) (fault : FenceFault) (x y : Point)
+    Stops : (was read : Stripe) (gathered : Gathered) (fault : FenceFault) (x y : Snapshot)
         → Loads t (IsCellOf x.member.array.geometry) gathered was read (Some fault) x y
         → LoadsStripe t into (Err (refused fault)) x y
 
 -- READING
 
 -- cell (i, j) of stripe t was asked for, of a live slot, once, and this was answered
-pub record AsksFor (t i j : ℕ) (answer : Got) (x y : Point) : Type 0 where
+pub record AsksFor (t i j : ℕ) (answer : Got) (x y : Snapshot) : Type 0 where
   pub live : IsLiveIn x.member j
   pub member : y.member ≡ x.member
   pub later : IsLater x.told y.told
@@ -71,7 +71,7 @@ pub record AsksFor (t i j : ℕ) (answer : Got) (x y : Point) : Type 0 where
       (Read (cell_sector x.member.array.geometry t i) answer)
 
 -- it couldn't be had: its slot isn't live, it read as bad, or the slot was gone
-pub data CannotHave (t i j : ℕ) (x y : Point) : Type 0 where
+pub data CannotHave (t i j : ℕ) (x y : Snapshot) : Type 0 where
   NotLive : ¬ IsLiveIn x.member j → y ≡ x → CannotHave t i j x y
   WasBad : AsksFor t i j got.Bad x y
       → IsReading j (cell_sector x.member.array.geometry t i) x.told y.told Damaged
@@ -87,20 +87,20 @@ pub record IsInPlace (g : Geometry) (b t i j : ℕ) : Type 0 where
 -- is remembered, and no call is made; its own cell was read; or that one couldn't be read and the stripe was restored, which is
 -- remembered from then on.
 pub data Reads (b : ℕ) (old : Option Remembered)
-    : Option Remembered → Result (List ℕ) Refusal → Point → Point → Type 0 where
-  OutOf : (x : Point) → block_count x.member.array.geometry ≤ b
+    : Option Remembered → Result (List ℕ) Refusal → Snapshot → Snapshot → Type 0 where
+  OutOf : (x : Snapshot) → block_count x.member.array.geometry ≤ b
       → Reads b old old (Err (OutOfRange b (block_count x.member.array.geometry))) x x
-  Recalled : (one : Remembered) (i j : ℕ) (x : Point) → old ≡ Some one
+  Recalled : (one : Remembered) (i j : ℕ) (x : Snapshot) → old ≡ Some one
       → IsInPlace x.member.array.geometry b one.stripe i j
       → Reads b old old (Ok (cell one.cells i j)) x x
-  Own : (t i j : ℕ) (bytes : List ℕ) (x y : Point) → IsInPlace x.member.array.geometry b t i j
+  Own : (t i j : ℕ) (bytes : List ℕ) (x y : Snapshot) → IsInPlace x.member.array.geometry b t i j
       → AsksFor t i j got.Good x y
       → IsReading j (cell_sector x.member.array.geometry t i) x.told y.told (Good bytes)
       → Reads b old old (Ok bytes) x y
-  Restored : (t i j : ℕ) (into : Stripe) (x y z : Point) → IsInPlace x.member.array.geometry b t i j
+  Restored : (t i j : ℕ) (into : Stripe) (x y z : Snapshot) → IsInPlace x.member.array.geometry b t i j
       → CannotHave t i j x y → LoadsStripe t into (Ok tt) y z
       → Reads b old (Some (record { stripe = t; cells = into })) (Ok (cell into i j)) x z
-  Refused : (t i j : ℕ) (into : Stripe) (refusal : Refusal) (x y z : Point)
+  Refused : (t i j : ℕ) (into : Stripe) (refusal : Refusal) (x y z : Snapshot)
       → IsInPlace x.member.array.geometry b t i j → CannotHave t i j x y
       → LoadsStripe t into (Err refusal) y z → Reads b old None (Err refusal) x z
 
@@ -131,22 +131,22 @@ AreOfBlocks g first count cells = (i j : ℕ) → HasCell cells i j
 -- How the cells of a redo come to be known. The blocks fill the stripe, and nothing is read; these cells were read, each of
 -- them; or the stripe was loaded, since one couldn't be read, or has a slot that isn't live.
 pub data Prepares (t count : ℕ) (cells : CellSet) (loaded : Stripe)
-    : Result (Unit {0}) Refusal → Point → Point → Type 0 where
-  Filled : (x : Point) → count ≡ data_cells x.member.array.geometry
+    : Result (Unit {0}) Refusal → Snapshot → Snapshot → Type 0 where
+  Filled : (x : Snapshot) → count ≡ data_cells x.member.array.geometry
       → Prepares t count cells loaded (Ok tt) x x
-  ByCells : (gathered : Gathered) (was : Stripe) (x y : Point)
+  ByCells : (gathered : Gathered) (was : Stripe) (x y : Snapshot)
       → count < data_cells x.member.array.geometry → Loads t (HasCell cells) gathered was loaded None x y
       → ((i j : ℕ) → ¬ HasCell gathered.erased i j) → Prepares t count cells loaded (Ok tt) x y
-  Stops : (gathered : Gathered) (was : Stripe) (fault : FenceFault) (x y : Point)
+  Stops : (gathered : Gathered) (was : Stripe) (fault : FenceFault) (x y : Snapshot)
       → count < data_cells x.member.array.geometry
       → Loads t (HasCell cells) gathered was loaded (Some fault) x y
       → Prepares t count cells loaded (Err (refused fault)) x y
   AfterCells : (gathered : Gathered) (was into : Stripe) (i j : ℕ)
-      (answer : Result (Unit {0}) Refusal) (x y z : Point)
+      (answer : Result (Unit {0}) Refusal) (x y z : Snapshot)
       → count < data_cells x.member.array.geometry
       → Loads t (HasCell cells) gathered was into None x y → HasCell gathered.erased i j
       → LoadsStripe t loaded answer y z → Prepares t count cells loaded answer x z
-  ByStripe : (i j : ℕ) (answer : Result (Unit {0}) Refusal) (x y : Point)
+  ByStripe : (i j : ℕ) (answer : Result (Unit {0}) Refusal) (x y : Snapshot)
       → count < data_cells x.member.array.geometry → HasCell cells i j → ¬ IsLiveIn x.member j
       → LoadsStripe t loaded answer x y → Prepares t count cells loaded answer x y
 
@@ -171,16 +171,16 @@ pub record AreInPlace (array : Configuration) (first : ℕ) (contents : List (Li
   pub change : AreOfBlocks array.geometry first (length contents) cells
 
 pub data WritesBlocks (first : ℕ) (contents : List (List ℕ))
-    : Result (Unit {0}) Refusal → Point → Point → Type 0 where
-  OutOf : (x : Point) → block_count x.member.array.geometry ≤ first
+    : Result (Unit {0}) Refusal → Snapshot → Snapshot → Type 0 where
+  OutOf : (x : Snapshot) → block_count x.member.array.geometry ≤ first
       → WritesBlocks first contents (Err (OutOfRange first (block_count x.member.array.geometry))) x x
-  IsFrozen : (x : Point) → first < block_count x.member.array.geometry
+  IsFrozen : (x : Snapshot) → first < block_count x.member.array.geometry
       → IsTrue x.member.array.frozen → WritesBlocks first contents (Err Frozen) x x
-  Unready : (t : ℕ) (cells : CellSet) (loaded : Stripe) (refusal : Refusal) (x y : Point)
+  Unready : (t : ℕ) (cells : CellSet) (loaded : Stripe) (refusal : Refusal) (x y : Snapshot)
       → AreInPlace x.member.array first contents t cells
       → Prepares t (length contents) cells loaded (Err refusal) x y
       → WritesBlocks first contents (Err refusal) x y
-  Wrote : (redo : Redo) (loaded stripe : Stripe) (refusal : Option FenceFault) (x y z : Point)
+  Wrote : (redo : Redo) (loaded stripe : Stripe) (refusal : Option FenceFault) (x y z : Snapshot)
       → AreInPlace x.member.array first contents redo.stripe redo.cells
       → IsRedo x.member.array.geometry redo
       → Prepares redo.stripe (length contents) redo.cells loaded (Ok tt) x y

@@ -6,7 +6,7 @@ use Rattle.stair_model.specs.Device.{body_sector, cell_sector, gate_sector}
 use Rattle.stair_model.specs.Geometry.{Geometry, block_count, data_cells, sectors_needed}
 use Rattle.stair_rack.specs.Count.{Rose}
 use Rattle.stair_rack.specs.Sector.{Cell, Damaged, Good}
-use Rattle.stair_rack.specs.Telling.{IsFoundGone, IsGone, IsReading, Telling}
+use Rattle.stair_rack.specs.RackState.{IsFoundGone, IsGone, IsReading, RackState}
 use Rattle.stair_super.specs.Superblock.{Superblock, mark_in}
 use Rattle.stair_super.specs.declared.mark.Mark.TheVariants.{Live, Down, Rebuilding}
 use Rattle.stair_member.specs.Counting.{AtMost, MoreThan}
@@ -17,15 +17,15 @@ use Rattle.stair_member.specs.declared.why.Why.TheVariants as why
 use Rattle.stair_journal.specs.Gate.{open_gate}
 use Rattle.stair_journal.specs.Redo.{IsRedo}
 use Rattle.stair_journal.specs.declared.redo.Redo.{Redo}
-use Rattle.stair_session.specs.Rebuilding.{Rebuild}
-use Rattle.stair_session.specs.Session.{ArrayState, IsLiveIn, IsRebuiltIn, seats_in}
+use Rattle.stair_invariant.specs.Rebuilding.{Rebuild}
+use Rattle.stair_invariant.specs.Session.{ArrayState, IsLiveIn, IsRebuiltIn, seats_in}
 use Rattle.stair_array.specs.Looking.{HadSectors}
 use Rattle.stair_array.specs.Machine.{AlreadyArray, Answer, Chunk, Dropped, EpochsSpent, Frozen, Gone, JournalLost, LookAtSeats, Lost, Nothing, OutOfRange, Promoted, ReadBlock, RebuildNext, Recover, Refusal, ReplaceSlot, ScrubStripe, SetFrozen, SetLabel, SlotBusy, SmallDevice, Step, TooFew, WriteBlocks}
 
 -- SLOTS THAT WERE GONE
 
 -- The medium of the slot had so many sectors at a moment, fewer than the array needs.
-pub record IsSmall (g : Geometry) (j has needs : ℕ) (old new : Telling) : Type 0 where
+pub record IsSmall (g : Geometry) (j has needs : ℕ) (old new : RackState) : Type 0 where
   pub needs_is : needs ≡ sectors_needed g
   pub small : has < needs
   pub had : IsTrue new.honest → HadSectors j has old.history new.history
@@ -33,7 +33,7 @@ pub record IsSmall (g : Geometry) (j has needs : ℕ) (old new : Telling) : Type
 -- The slot was gone to a call of the step, and its count rose. On an honest rack it is offline then, where the session holds
 -- it; or it takes part, and its medium has too few sectors, past whose end a write is gone. A rack that represents a state
 -- has no such medium on a live slot.
-pub data WasGoneTo (m : Membership) (j : ℕ) (old new : Telling) : Type 0 where
+pub data WasGoneTo (m : Membership) (j : ℕ) (old new : RackState) : Type 0 where
   Offline : IsGone j old new → WasGoneTo m j old new
   PastEnd : Rose (old.gones j) (new.gones j) → IsHere m j → (has needs : ℕ)
       → IsSmall m.array.geometry j has needs old new → WasGoneTo m j old new
@@ -41,7 +41,7 @@ pub data WasGoneTo (m : Membership) (j : ℕ) (old new : Telling) : Type 0 where
 -- WHAT THE SESSION KNOWS GOES ON
 
 -- why a slot isn't here changes with what it was gone to, and as the step says
-pub data WhyGoesOn (step : Step) (old new : Telling) (m last : Membership) (j : ℕ) : Type 0 where
+pub data WhyGoesOn (step : Step) (old new : RackState) (m last : Membership) (j : ℕ) : Type 0 where
   Stays : why_of last j ≡ why_of m j → WhyGoesOn step old new m last j
   Went : why_of last j ≡ why.Gone → WasGoneTo m j old new → WhyGoesOn step old new m last j
   IsAdmitted : step ≡ ReplaceSlot j → why_of last j ≡ why.Rebuilding
@@ -50,7 +50,7 @@ pub data WhyGoesOn (step : Step) (old new : Telling) (m last : Membership) (j : 
       → WhyGoesOn step old new m last j
 
 -- A mark goes to Down only where the slot wasn't here as the array was opened, or was gone in the step.
-pub data MarkGoesOn (step : Step) (old new : Telling) (m last : Membership) (j : ℕ) : Type 0 where
+pub data MarkGoesOn (step : Step) (old new : RackState) (m last : Membership) (j : ℕ) : Type 0 where
   Stays : mark_in last.array j ≡ mark_in m.array j → MarkGoesOn step old new m last j
   WasAway : step ≡ Recover → why_of m j ≢ why.Here → why_of m j ≢ why.Rebuilding
       → mark_in last.array j ≡ Down → MarkGoesOn step old new m last j
@@ -60,7 +60,7 @@ pub data MarkGoesOn (step : Step) (old new : Telling) (m last : Membership) (j :
   IsPromoted : step ≡ RebuildNext → mark_in m.array j ≡ Rebuilding → mark_in last.array j ≡ Live
       → MarkGoesOn step old new m last j
 
-pub record MemberGoesOn (step : Step) (old new : Telling) (m last : Membership) : Type 0 where
+pub record MemberGoesOn (step : Step) (old new : RackState) (m last : Membership) : Type 0 where
   pub geometry : last.array.geometry ≡ m.array.geometry
   pub whys : (j : ℕ) → j < m.array.geometry.n → WhyGoesOn step old new m last j
   pub marks : (j : ℕ) → j < m.array.geometry.n → MarkGoesOn step old new m last j
@@ -69,20 +69,20 @@ pub record MemberGoesOn (step : Step) (old new : Telling) (m last : Membership) 
 -- REFUSALS
 
 -- a number was tested against a limit and is out of it, and nothing else was done
-pub record IsOutOf (number limit asked at : ℕ) (old new : Telling) : Type 0 where
+pub record IsOutOf (number limit asked at : ℕ) (old new : RackState) : Type 0 where
   pub asked_is : asked ≡ number
   pub limit_is : at ≡ limit
   pub above : limit ≤ number
   pub nothing : new ≡ old
 
 -- The cell of a slot that was live is erased: the slot was gone in the step, and isn't live any more; or the cell read as bad.
-pub data IsErasedFor (m last : Membership) (old new : Telling) (t i j : ℕ) : Type 0 where
+pub data IsErasedFor (m last : Membership) (old new : RackState) (t i j : ℕ) : Type 0 where
   SlotGone : WasGoneTo m j old new → ¬ IsLiveIn last j → IsErasedFor m last old new t i j
   ReadBad : IsReading j (cell_sector m.array.geometry t i) old new Damaged
       → IsErasedFor m last old new t i j
 
 -- a pattern of stripe t was found that isn't covered, and these are its counts
-pub record IsLost (m last : Membership) (old new : Telling) (t : ℕ) (counts : List ℕ) : Type 0
+pub record IsLost (m last : Membership) (old new : RackState) (t : ℕ) (counts : List ℕ) : Type 0
   where
     pub erased : CellSet
     pub formed : IsCellSet erased
@@ -97,7 +97,7 @@ pub record AreTooFew (last : Membership) (whys : List Why) : Type 0 where
   pub many : MoreThan last.array.geometry.m (IsMissing last)
 
 -- a slot that took part was gone in the step
-pub record LostOne (m : Membership) (old new : Telling) : Type 0 where
+pub record LostOne (m : Membership) (old new : RackState) : Type 0 where
   pub slot : ℕ
   pub here : IsHere m slot
   pub gone : WasGoneTo m slot old new
@@ -108,7 +108,7 @@ pub record AreSpent (last : Membership) : Type 0 where
   pub enough : AtMost last.array.geometry.m (IsMissing last)
 
 -- a gate read open, and this sector of the redo's body as bad on each slot that was live in the end
-pub record IsJournalLost (m last : Membership) (old new : Telling) (sector : ℕ) : Type 0 where
+pub record IsJournalLost (m last : Membership) (old new : RackState) (sector : ℕ) : Type 0 where
   pub redo : Redo
   pub formed : IsRedo m.array.geometry redo
   pub gate : ℕ
@@ -121,12 +121,12 @@ pub record IsJournalLost (m last : Membership) (old new : Telling) (sector : ℕ
   pub bad : (j : ℕ) → IsLiveIn last j → IsReading j sector old new Damaged
 
 -- the medium of the slot had enough sectors at a moment
-abbrev pub HadEnough : Geometry → ℕ → Telling → Telling → Type 0
+abbrev pub HadEnough : Geometry → ℕ → RackState → RackState → Type 0
 HadEnough g j old new = IsTrue new.honest
     → (has : ℕ) × (sectors_needed g ≤ has) × HadSectors j has old.history new.history
 
 -- the medium of the slot is large enough, and of its two places, which were read, one holds a superblock of another array
-pub record BearsOther (g : Geometry) (j : ℕ) (old new : Telling) : Type 0 where
+pub record BearsOther (g : Geometry) (j : ℕ) (old new : RackState) : Type 0 where
   pub large : HadEnough g j old new
   pub cell : ℕ → Cell
   pub reading : (k : ℕ) → k < 2 → IsReading j k old new (cell k)
@@ -153,7 +153,7 @@ pub data IsNextChunk (a : ArrayState) (slot stripe : ℕ) : Type 0 where
       → IsNextChunk a slot stripe
 
 -- an epoch was to be established: the step is for one, or a slot that took part was gone in it
-abbrev pub IsEpochDue : Step → ArrayState → Telling → Telling → Type 0
+abbrev pub IsEpochDue : Step → ArrayState → RackState → RackState → Type 0
 IsEpochDue Recover was old new = ⊤
 IsEpochDue (SetFrozen frozen) was old new = ⊤
 IsEpochDue (SetLabel label) was old new = ⊤
@@ -166,7 +166,7 @@ IsEpochDue step was old new = LostOne was.member old new
 
 -- Why a step was refused that began with this array, of which the session knows `last` of its slots in the end: a row for each
 -- refusal that the step has.
-abbrev pub HasCause : Step → Refusal → ArrayState → Membership → Telling → Telling → Type 0
+abbrev pub HasCause : Step → Refusal → ArrayState → Membership → RackState → RackState → Type 0
 HasCause (ReadBlock b) (OutOfRange asked limit) was last old new =
     IsOutOf b (block_count was.member.array.geometry) asked limit old new
 HasCause (WriteBlocks b contents) (OutOfRange asked limit) was last old new =
@@ -221,7 +221,7 @@ IsAllowed LookAtSeats (Ok seats) was = seats ≡ seats_in was.member.array
 IsAllowed _ _ was = ⊤
 
 -- of the step's own counts
-abbrev pub HasCounted : (step : Step) → Answer step → Telling → Telling → Type 0
+abbrev pub HasCounted : (step : Step) → Answer step → RackState → RackState → Type 0
 HasCounted (ScrubStripe t) (Ok count) old new = 0 < count → Rose old.bads new.bads
 HasCounted RebuildNext (Ok (Dropped j)) old new = Rose (old.gones j) (new.gones j)
 HasCounted _ _ old new = ⊤

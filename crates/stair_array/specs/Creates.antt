@@ -11,7 +11,7 @@ use Rattle.stair_rack.specs.RackCounts.{NoneFalls}
 use Rattle.stair_rack.specs.Stretch.{NoneWritten, NothingWritten}
 use Rattle.stair_member.specs.Superblocks.{HasSuper}
 use Rattle.stair_array.specs.Created.{BearNoneOutside, NoneComesBack, created_sector}
-use Rattle.stair_rack.specs.Telling.{Telling}
+use Rattle.stair_rack.specs.RackState.{RackState}
 use Rattle.stair_array.specs.Looking.{IsNotCreated, WasLookedAt, cells_at}
 use Rattle.stair_array.specs.Making.{IsCreating, PlacesInTurn, SuperblocksCameLast, WrittenWithin}
 use Rattle.stair_state.specs.Holding.{IsConsistentUnderReassembly}
@@ -43,7 +43,7 @@ pub record CanBeMade (g : Geometry) (old new : List Happening) : Type 0 where
       → ¬ HasSuper (cells_at h j)
 
 -- What a call of `create` does.
-pub record Creates (g : Geometry) (answer : Result (Unit {0}) CreateFault) (old new : Telling)
+pub record Creates (g : Geometry) (answer : Result (Unit {0}) CreateFault) (old new : RackState)
     : Type 0 where
   -- on any rack: why there is no array, and whether anything was written
   pub refused : IfErr answer (λ fault. IsNotCreated g fault old new)

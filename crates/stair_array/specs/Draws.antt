@@ -4,7 +4,7 @@ use Rattle.stair_model.specs.Sum.{sum_below}
 use Rattle.stair_rack.specs.History.{Happening}
 use Rattle.stair_rack.specs.Moments.{IsMoment}
 use Rattle.stair_rack.specs.Stretch.{NoneWritten}
-use Rattle.stair_rack.specs.Telling.{Telling}
+use Rattle.stair_rack.specs.RackState.{RackState}
 use Rattle.stair_super.specs.Superblock.{Superblock}
 use Rattle.stair_member.specs.Membership.{Membership, why_of}
 use Rattle.stair_member.specs.declared.why.Why.{Why}
@@ -33,7 +33,7 @@ allowance _ = 0
 
 -- The greatest draw that the member had seen, or a greater one that the medium of a slot which is to be admitted bore before
 -- anything of it was written.
-pub data HadSeen (step : Step) (m : Membership) (old new : Telling) (draw : ℕ) : Type 0 where
+pub data HadSeen (step : Step) (m : Membership) (old new : RackState) (draw : ℕ) : Type 0 where
   Before : draw ≡ m.drawn → HadSeen step m old new draw
   OnMedium : (j k : ℕ) (super : Superblock) → step ≡ ReplaceSlot j → k < 2
       → (IsTrue new.honest → (moment : List Happening) × IsMoment old.history moment new.history
@@ -41,7 +41,7 @@ pub data HadSeen (step : Step) (m : Membership) (old new : Telling) (draw : ℕ)
       → super.array.geometry ≡ m.array.geometry → draw ≡ super.draw → m.drawn ≤ draw
       → HadSeen step m old new draw
 
-pub record DrawsFew (step : Step) (m last : Membership) (old new : Telling) : Type 0 where
+pub record DrawsFew (step : Step) (m last : Membership) (old new : RackState) : Type 0 where
   pub draw : ℕ
   pub had_seen : HadSeen step m old new draw
   pub few : last.drawn + weights last ≤ draw + weights m + allowance step

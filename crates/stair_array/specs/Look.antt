@@ -8,7 +8,7 @@ use Rattle.stair_rack.specs.Stretch.{IsNoWrite}
 use Rattle.stair_member.specs.Probing.{ProbesSlot, WasGone as WasGoneToProbe}
 use Rattle.stair_member.specs.Superblocks.{HasSuper}
 use Rattle.stair_member.specs.declared.probe.SlotProbe.{SlotProbe}
-use Rattle.stair_rack.specs.Telling.{IsReading, Telling}
+use Rattle.stair_rack.specs.RackState.{IsReading, RackState}
 use Rattle.stair_array.specs.Looking.{Finding, WasGone, WasSmall, Holds, IsBare, IsFound, IsRefusedFor}
 use Rattle.stair_state.specs.Represents.{IsLargeEnough}
 use Rattle.stair_array.specs.declared.fault.CreateFault.{CreateFault}
@@ -32,7 +32,7 @@ IsReadOf slot j (Write k bytes answer) = ⊥
 IsReadOf slot j (Sync answer) = ⊥
 
 -- Both superblock places were read, and one of them holds a superblock or none does, as this says.
-pub record AreJudged (j : ℕ) (old new : Telling) (has : Bool) : Type 0 where
+pub record AreJudged (j : ℕ) (old new : RackState) (has : Bool) : Type 0 where
   pub cell : ℕ → Cell
   pub reading : (k : ℕ) → k < 2 → IsReading j k old new (cell k)
   pub holds : has ≡ true → HasSuper cell
@@ -40,14 +40,14 @@ pub record AreJudged (j : ℕ) (old new : Telling) (has : Bool) : Type 0 where
   pub moment : IsBare j old new cell
 
 -- what a search of the two superblock places found, in short
-abbrev pub IsSearched : ℕ → Telling → Telling → Found → Type 0
+abbrev pub IsSearched : ℕ → RackState → RackState → Found → Type 0
 IsSearched j old new found.Gone = (slot : SlotProbe) × ProbesSlot j slot old new × WasGoneToProbe slot
 IsSearched j old new (found.Small has) = ⊥
 IsSearched j old new found.Bare = AreJudged j old new false
 IsSearched j old new found.Super = AreJudged j old new true
 
 -- what was found of slot j, in short
-abbrev pub IsFoundAs : Geometry → ℕ → Telling → Telling → Found → Type 0
+abbrev pub IsFoundAs : Geometry → ℕ → RackState → RackState → Found → Type 0
 IsFoundAs g j old new found.Gone = IsFound g j old new WasGone
 IsFoundAs g j old new (found.Small has) = IsFound g j old new (WasSmall has)
 IsFoundAs g j old new found.Bare =
@@ -56,7 +56,7 @@ IsFoundAs g j old new found.Super =
     (cell : ℕ → Cell) × IsFound g j old new (Holds cell) × HasSuper cell
 
 -- slot j was looked at, and refused
-pub record IsRefusedAt (g : Geometry) (fault : CreateFault) (j : ℕ) (old new : Telling)
+pub record IsRefusedAt (g : Geometry) (fault : CreateFault) (j : ℕ) (old new : RackState)
     : Type 0 where
   pub finding : Finding
   pub found : IsFound g j old new finding

@@ -8,7 +8,7 @@ use Rattle.stair_rack.specs.Offline.{IsOffline}
 use Rattle.stair_rack.specs.Sector.{Cell, content}
 use Rattle.stair_rack.specs.Stretch.{NothingWritten, WasAnswered}
 use Rattle.stair_member.specs.Superblocks.{HasSuper}
-use Rattle.stair_rack.specs.Telling.{Telling, IsFoundGone, IsLater, IsReading}
+use Rattle.stair_rack.specs.RackState.{RackState, IsFoundGone, IsLater, IsReading}
 use Rattle.stair_rack.specs.declared.rack.Reply.TheVariants as reply
 use Rattle.stair_array.specs.declared.fault.CreateFault.{CreateFault}
 use Rattle.stair_array.specs.declared.fault.CreateFault.TheVariants.{Gone, SmallDevice, AlreadyArray}
@@ -45,16 +45,16 @@ abbrev pub cells_at : List Happening → ℕ → ℕ → Cell
 cells_at h j k = content ((slot_state h j).sector k)
 
 -- The medium of a slot of the array was large enough.
-abbrev pub IsLarge : Geometry → ℕ → Telling → Telling → Type 0
+abbrev pub IsLarge : Geometry → ℕ → RackState → RackState → Type 0
 IsLarge g j old new = j < g.n → IsTrue new.honest
     → (has : ℕ) × (sectors_needed g ≤ has) × HadSectors j has old.history new.history
 
 -- of cells without a superblock: at some one moment none was in either place
-abbrev pub IsBare : ℕ → Telling → Telling → (ℕ → Cell) → Type 0
+abbrev pub IsBare : ℕ → RackState → RackState → (ℕ → Cell) → Type 0
 IsBare j old new cell = ¬ HasSuper cell → IsTrue new.honest
     → AtSomeMoment (λ h. ¬ HasSuper (cells_at h j)) old.history new.history
 
-abbrev pub IsFound : Geometry → ℕ → Telling → Telling → Finding → Type 0
+abbrev pub IsFound : Geometry → ℕ → RackState → RackState → Finding → Type 0
 IsFound g j old new WasGone = IsFoundGone j old new
 IsFound g j old new (WasSmall has) = (j < g.n) × (has < sectors_needed g)
     × (IsTrue new.honest → HadSectors j has old.history new.history)
@@ -64,28 +64,28 @@ IsFound g j old new (Holds cell) = ((k : ℕ) → k < 2 → IsReading j k old ne
 -- WHAT COMES OF THE LOOK
 
 -- a slot of the array was synced, so that nothing of its medium's earlier life is unsynced any more
-abbrev pub IsSettled : Geometry → ℕ → Telling → Telling → Type 0
+abbrev pub IsSettled : Geometry → ℕ → RackState → RackState → Type 0
 IsSettled g j old new =
     j < g.n → IsTrue new.honest → WasAnswered j (Sync reply.Done) old.history new.history
 
 -- slot j was looked at, and passed
-pub record Passed (g : Geometry) (j : ℕ) (old new : Telling) : Type 0 where
+pub record Passed (g : Geometry) (j : ℕ) (old new : RackState) : Type 0 where
   pub finding : Finding
   pub found : IsFound g j old new finding
   pub passes : Passes g j finding
   pub settled : IsSettled g j old new
 
 -- no device was written
-abbrev pub IsUnwritten : Telling → Telling → Type 0
+abbrev pub IsUnwritten : RackState → RackState → Type 0
 IsUnwritten old new = IsTrue new.honest → NothingWritten old.history new.history
 
 -- all 32 slots passed, and no device was written
-pub record AllPassed (g : Geometry) (old new : Telling) : Type 0 where
+pub record AllPassed (g : Geometry) (old new : RackState) : Type 0 where
   pub each : (j : ℕ) → j < 32 → Passed g j old new
   pub unwritten : IsUnwritten old new
 
 -- This slot was refused, those below it passed, and no device was written.
-pub record IsRefused (g : Geometry) (fault : CreateFault) (old new : Telling) : Type 0 where
+pub record IsRefused (g : Geometry) (fault : CreateFault) (old new : RackState) : Type 0 where
   pub slot : ℕ
   pub slot_in : slot < 32
   pub before : (j : ℕ) → j < slot → Passed g j old new
@@ -95,25 +95,25 @@ pub record IsRefused (g : Geometry) (fault : CreateFault) (old new : Telling) : 
   pub unwritten : IsUnwritten old new
 
 -- A slot of the array was gone while the devices were written, and is offline.
-abbrev pub IsGoneInWriting : Geometry → CreateFault → Telling → Telling → Telling → Type 0
+abbrev pub IsGoneInWriting : Geometry → CreateFault → RackState → RackState → RackState → Type 0
 IsGoneInWriting g (Gone slot) old mid new = (slot < g.n)
     × Rose (mid.gones slot) (new.gones slot)
     × (IsTrue new.honest → IsOffline old.history new.history slot)
 IsGoneInWriting g fault old mid new = ⊥
 
 -- all slots passed, and then the devices were written, up to this fault
-pub record IsGivenUp (g : Geometry) (fault : CreateFault) (old new : Telling) : Type 0 where
-  pub mid : Telling
+pub record IsGivenUp (g : Geometry) (fault : CreateFault) (old new : RackState) : Type 0 where
+  pub mid : RackState
   pub passed : AllPassed g old mid
   pub later : IsLater mid new
   pub gone : IsGoneInWriting g fault old mid new
 
 -- why there is no array
-abbrev pub IsNotCreated : Geometry → CreateFault → Telling → Telling → Type 0
+abbrev pub IsNotCreated : Geometry → CreateFault → RackState → RackState → Type 0
 IsNotCreated g fault old new = IsRefused g fault old new ⊎ IsGivenUp g fault old new
 
 -- all slots had passed before anything was written
-pub record WasLookedAt (g : Geometry) (old new : Telling) : Type 0 where
-  pub mid : Telling
+pub record WasLookedAt (g : Geometry) (old new : RackState) : Type 0 where
+  pub mid : RackState
   pub passed : AllPassed g old mid
   pub later : IsLater mid new

@@ -6,7 +6,7 @@ use Rattle.stair_super.specs.declared.mark.Mark.TheVariants.{Live, Down, Rebuild
 use Rattle.stair_member.specs.Seats.{Seats}
 use Rattle.stair_member.specs.declared.why.Why.{Why}
 use Rattle.stair_state.specs.Blocks.{AreOfOneStripe}
-use Rattle.stair_session.specs.SeatSteps.{EachMayDrop, SeatGoes}
+use Rattle.stair_invariant.specs.SeatSteps.{EachMayDrop, SeatGoes}
 use Rattle.stair_state.specs.State.{BlocksAre, Change, FrozenIs, LabelIs, State, changed_if}
 
 pub data Step : Type 0 where

@@ -12,7 +12,7 @@ use Rattle.stair_rack.specs.Sector.{Good, settled}
 use Rattle.stair_rack.specs.Stretch.{EachHappening}
 use Rattle.stair_array.specs.Created.{created_sector}
 use Rattle.stair_array.specs.Look.{IsTaken}
-use Rattle.stair_rack.specs.Telling.{Telling}
+use Rattle.stair_rack.specs.RackState.{RackState}
 use Rattle.stair_array.specs.declared.fault.CreateFault.{CreateFault}
 use Rattle.stair_array.specs.declared.fault.CreateFault.TheVariants.{Gone, SmallDevice, AlreadyArray}
 
@@ -51,13 +51,13 @@ pub record AreMade (g : Geometry) (part : ℕ → Type 0) (j : ℕ) (old new : L
       → ButForOutside old new j k (λ s. s ≡ settled (Good (created_sector g j k)))
 
 -- slot j was gone; where it had been taken it is offline
-pub record IsStoppedAt (g : Geometry) (j : ℕ) (old new : Telling) : Type 0 where
+pub record IsStoppedAt (g : Geometry) (j : ℕ) (old new : RackState) : Type 0 where
   pub gone : Rose (old.gones j) (new.gones j)
   pub offline : IsTrue new.honest → (before : List Happening) → IsTaken g j before old.history
       → IsOffline before new.history j
 
 -- the writing stopped at a slot of the array that was gone
-abbrev pub IsStoppedBy : Geometry → CreateFault → Telling → Telling → Type 0
+abbrev pub IsStoppedBy : Geometry → CreateFault → RackState → RackState → Type 0
 IsStoppedBy g (Gone slot) old new = (slot < g.n) × IsStoppedAt g slot old new
 IsStoppedBy g (SmallDevice slot has needs) old new = ⊥
 IsStoppedBy g (AlreadyArray slot) old new = ⊥

@@ -5,13 +5,13 @@ use Rattle.stair_rack.specs.declared.rack.Reply.TheVariants as reply
 use Rattle.stair_model.specs.Slots.{Slots}
 use Rattle.stair_member.specs.Establishing.{Joins}
 use Rattle.stair_member.specs.Membership.{Membership, why_of}
-use Rattle.stair_member.specs.declared.aim.Aim.TheVariants.{Admit}
+use Rattle.stair_member.specs.declared.aim.EpochChange.TheVariants.{Admit}
 use Rattle.stair_member.specs.declared.fault.AdmitFault.{AdmitFault}
 use Rattle.stair_member.specs.declared.fault.AdmitFault.TheVariants as admit
 use Rattle.stair_member.specs.declared.why.Why.{Why}
 use Rattle.stair_member.specs.declared.why.Why.TheVariants as why
-use Rattle.stair_session.specs.Courses.{Point}
-use Rattle.stair_session.specs.Rebuilding.{Rebuild}
+use Rattle.stair_invariant.specs.Effects.{Snapshot}
+use Rattle.stair_invariant.specs.Rebuilding.{Rebuild}
 use Rattle.stair_array.specs.Faults.{refusal_for}
 use Rattle.stair_array.specs.Machine.{Dropped, EpochsSpent, Gone, Progress, Promoted, Refusal, TooFew}
 use Rattle.stair_array.specs.Mends.{joined_as, promoted_as}
@@ -57,7 +57,7 @@ promotion_as j (Err admit.EpochsSpent) = Err EpochsSpent
 promotion_as j (Err (admit.Gone slot)) = Ok (Dropped j)
 
 -- an epoch in which this slot is admitted was established, or refused
-pub data AdmitsSlot (slot : ℕ) : Result (Unit {0}) Refusal → Point → Point → Type 0 where
-  Joined : (answer : Result Slots AdmitFault) (x y : Point)
+pub data AdmitsSlot (slot : ℕ) : Result (Unit {0}) Refusal → Snapshot → Snapshot → Type 0 where
+  Joined : (answer : Result Slots AdmitFault) (x y : Snapshot)
       → Joins (Admit slot) slot x.member y.member answer x.told y.told
       → AdmitsSlot slot (joined_as answer) x y

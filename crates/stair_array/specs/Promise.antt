@@ -11,7 +11,7 @@ use Rattle.stair_rack.specs.Moments.{AtEveryMoment, AtSomeMoment, IsMoment}
 use Rattle.stair_rack.specs.Offline.{IsHeld, IsOffline, WasPulled}
 use Rattle.stair_rack.specs.Sector.{content}
 use Rattle.stair_rack.specs.Stretch.{NoneWritten, NothingWritten, WasAnswered}
-use Rattle.stair_rack.specs.Telling.{IsLater, Telling}
+use Rattle.stair_rack.specs.RackState.{IsLater, RackState}
 use Rattle.stair_rack.specs.declared.rack.Got.TheVariants as got
 use Rattle.stair_rack.specs.declared.rack.Reply.TheVariants as reply
 use Rattle.stair_super.specs.Superblock.{Superblock}
@@ -26,10 +26,10 @@ use Rattle.stair_member.specs.declared.why.Why.TheVariants as why
 use Rattle.stair_state.specs.Blocks.{AreEncodingsOf, Codewords}
 use Rattle.stair_state.specs.Represents.{IsLargeEnough}
 use Rattle.stair_state.specs.State.{State}
-use Rattle.stair_session.specs.Courses.{Point, point}
-use Rattle.stair_session.specs.Rebuilding.{Rebuild}
-use Rattle.stair_session.specs.Returning.{AnyReturns, IsCalm, IsCalmUnread, Knows, NoneReturns, Returning, StandsFor, StandsForAlone}
-use Rattle.stair_session.specs.Session.{ArrayState, IsArray, IsLiveIn, IsOpenWith, IsRebuiltIn, IsRememberedIn, Remembered, seats_in}
+use Rattle.stair_invariant.specs.Effects.{Snapshot, snapshot}
+use Rattle.stair_invariant.specs.Rebuilding.{Rebuild}
+use Rattle.stair_invariant.specs.Returning.{AnyReturns, StaysWithinTolerance, StaysWithinToleranceUnread, Knows, NoneReturns, Returning, StandsFor, StandsForAlone}
+use Rattle.stair_invariant.specs.Session.{ArrayState, IsArray, IsLiveIn, IsOpenWith, IsRebuiltIn, IsRememberedIn, Remembered, seats_in}
 use Rattle.stair_array.specs.Calls.{Reads, WritesBlocks, refused}
 use Rattle.stair_array.specs.Causes.{HasCause, HasCounted, IsAllowed, IsNextChunk, MemberGoesOn}
 use Rattle.stair_array.specs.Draws.{DrawsFew, HasDraws, most_drawn}
@@ -43,18 +43,18 @@ use Rattle.stair_array.specs.Openings.{Recovers}
 -- SESSIONS
 
 -- how far a session has come: nothing was done; an array was found; it is open; it was refused
-pub data Session : Type 0 where
-  Begun : Session
-  Found : Membership → Session
-  Opened : ArrayState → Session
-  Closed : Session
+pub data Phase : Type 0 where
+  Begun : Phase
+  Found : Membership → Phase
+  Opened : ArrayState → Phase
+  Closed : Phase
 
 -- what a rack tells, and what the session has of its array, at a moment
 pub record Seen : Type 0 where
-  pub told : Telling
-  pub session : Session
+  pub told : RackState
+  pub session : Phase
 
-abbrev pub is_open : Session → Bool
+abbrev pub is_open : Phase → Bool
 is_open (Opened array) = true
 is_open _ = false
 
@@ -73,9 +73,9 @@ pub record IsOpenFor (returning : Returning) (before : List Happening) (s : Stat
   pub remembered : IsRememberedIn words a.remembered
 
 -- What the session has of the array is right for this state; seats aren't known until it is open.
-abbrev pub ServesState : Returning → List Happening → State → Session → Telling → Type 0
+abbrev pub ServesState : Returning → List Happening → State → Phase → RackState → Type 0
 ServesState returning before s Begun told = (before ≡ told.history) × (s.seats ≡ None)
-ServesState returning before s (Found m) told = (first : Telling) × (first.history ≡ before)
+ServesState returning before s (Found m) told = (first : RackState) × (first.history ≡ before)
     × StandsFor returning s before × Surveys (Ok m) first told × (s.seats ≡ None)
 ServesState returning before s (Opened a) told =
     IsOpenFor returning before s a told.history ⊎ IsSome a.stopped
@@ -169,12 +169,12 @@ abbrev pub unopened : Membership → ArrayState
 unopened m = record { member = m; rebuild = None; stopped = None; remembered = None }
 
 -- what a session has of the array after an opening
-abbrev pub session_after : Answer Recover → Membership → Session
+abbrev pub session_after : Answer Recover → Membership → Phase
 session_after (Ok g) last = Opened (unopened last)
 session_after (Err refusal) last = Closed
 
 -- an opening begins with an array that was found, any other step with one that is open and wasn't stopped
-abbrev pub StartsFrom : Step → ArrayState → Session → Type 0
+abbrev pub StartsFrom : Step → ArrayState → Phase → Type 0
 StartsFrom Recover was (Found m) = was ≡ unopened m
 StartsFrom Recover was _ = ⊥
 StartsFrom _ was (Opened a) = (was ≡ a) × (a.stopped ≡ None)
@@ -187,7 +187,7 @@ Keeps (Err EpochsSpent) kept = (fault : FenceFault) × (kept ≡ Some fault) × 
 Keeps _ kept = kept ≡ None
 
 -- an opening that is refused ends the session; after any other step it has the array as it is then
-pub data EndsIn (step : Step) (answer : Answer step) (is : ArrayState) (session : Session)
+pub data EndsIn (step : Step) (answer : Answer step) (is : ArrayState) (session : Phase)
     : Type 0 where
   Ends : step ≡ Recover → IsErr answer → session ≡ Closed → EndsIn step answer is session
   GoesOn : (step ≡ Recover → IsOk answer) → Keeps answer is.stopped → session ≡ Opened is
@@ -255,7 +255,7 @@ Remembers LookAtSeats was is = is.remembered ≡ was.remembered
 Remembers step was is = is.remembered ≡ None
 
 -- what was called, whichever media come back, by an array that remembers this afterwards
-abbrev pub Does : (step : Step) → ArrayState → Option Remembered → Answer step → Point → Point → Type 0
+abbrev pub Does : (step : Step) → ArrayState → Option Remembered → Answer step → Snapshot → Snapshot → Type 0
 Does Recover was after answer x y = Recovers answer x y
 Does (ReadBlock b) was after answer x y = Reads b was.remembered after answer x y
 Does (WriteBlocks first contents) was after answer x y = WritesBlocks first contents answer x y
@@ -277,22 +277,22 @@ IsAnsweredGone (Write k bytes answer) = answer ≡ reply.Gone
 IsAnsweredGone (Sync answer) = answer ≡ reply.Gone
 
 -- a slot that takes part and answered gone doesn't take part in the end
-abbrev pub AreAllLeftOut : Membership → Membership → Telling → Telling → Type 0
+abbrev pub AreAllLeftOut : Membership → Membership → RackState → RackState → Type 0
 AreAllLeftOut m last old new = (j : ℕ) (call : SlotCall) → IsHere m j
     → WasAnswered j call old.history new.history → IsAnsweredGone call → why_of last j ≡ why.Gone
 
 -- the sector was good, or wasn't, at a moment of the step
-abbrev pub WasSound : ℕ → ℕ → Telling → Telling → Type 0
+abbrev pub WasSound : ℕ → ℕ → RackState → RackState → Type 0
 WasSound j k old new = AtSomeMoment (λ h. is_good (content ((slot_state h j).sector k)) ≡ true)
     old.history new.history
 
-abbrev pub WasBad : ℕ → ℕ → Telling → Telling → Type 0
+abbrev pub WasBad : ℕ → ℕ → RackState → RackState → Type 0
 WasBad j k old new = AtSomeMoment (λ h. is_good (content ((slot_state h j).sector k)) ≡ false)
     old.history new.history
 
 -- Each cell of a scrubbed stripe on a live slot was sound, the places and the journal of a slot that was admitted, and the
 -- cells of the chunk that was rebuilt, the last one before a promotion too.
-abbrev pub HasMade : (step : Step) → Answer step → ArrayState → Membership → Telling → Telling → Type 0
+abbrev pub HasMade : (step : Step) → Answer step → ArrayState → Membership → RackState → RackState → Type 0
 HasMade (ScrubStripe t) (Ok count) was last old new = (i j : ℕ) → i < last.array.geometry.r
     → IsLiveIn last j → WasSound j (cell_sector last.array.geometry t i) old new
 HasMade (ReplaceSlot j) (Ok done) was last old new =
@@ -307,7 +307,7 @@ HasMade _ _ was last old new = ⊤
 -- So many cells of stripe t were repaired: each lay on a slot that was live when the step began, and was bad at a moment of
 -- it. Those of a slot are all that were bad then, where it wasn't offline, its medium has both superblock places and the outside
 -- didn't pull it meanwhile.
-pub record AreRepaired (m : Membership) (t count : ℕ) (old new : Telling) : Type 0 where
+pub record AreRepaired (m : Membership) (t count : ℕ) (old new : RackState) : Type 0 where
   pub cells : CellSet
   pub formed : IsCellSet cells
   pub number : cell_count cells ≡ count
@@ -320,12 +320,12 @@ pub record AreRepaired (m : Membership) (t count : ℕ) (old new : Telling) : Ty
       → is_good (content ((slot_state old.history j).sector (cell_sector m.array.geometry t i)))
       ≡ false → HasCell cells i j
 
-abbrev pub HasRepaired : (step : Step) → Answer step → Membership → Telling → Telling → Type 0
+abbrev pub HasRepaired : (step : Step) → Answer step → Membership → RackState → RackState → Type 0
 HasRepaired (ScrubStripe t) (Ok count) m old new = AreRepaired m t count old new
 HasRepaired _ _ m old new = ⊤
 
 -- Before a slot is admitted neither of its places held a superblock of another array, at a moment at which it wasn't written.
-abbrev pub WasFitBefore : (step : Step) → Answer step → Membership → Telling → Telling → Type 0
+abbrev pub WasFitBefore : (step : Step) → Answer step → Membership → RackState → RackState → Type 0
 WasFitBefore (ReplaceSlot j) (Ok done) m old new = (moment : List Happening)
     × IsMoment old.history moment new.history × NoneWritten (λ i. i ≡ j) old.history moment
     × ((k : ℕ) (s : Superblock) → k < 2 → HoldsSuper (cells_at moment j k) s
@@ -353,7 +353,7 @@ pub record Performs (step : Step) (answer : Answer step) (events : List Event) (
   pub array : ¬ Stops answer → IsArray is
   pub counted : HasCounted step answer x.told y.told
   pub remembers : Remembers step was is
-  pub does : Does step was is.remembered answer (point was.member x.told) (point is.member y.told)
+  pub does : Does step was is.remembered answer (snapshot was.member x.told) (snapshot is.member y.told)
   -- on an honest rack
   pub left_out : IsTrue y.told.honest → AreAllLeftOut was.member is.member x.told y.told
   pub made : IsTrue y.told.honest → HasMade step answer was is.member x.told y.told
@@ -383,19 +383,19 @@ pub record LeadsStep (returning : Returning) (m : Membership) (step : Step) (ans
   pub leads : IsTrue y.told.honest → (before : List Happening) (s : State)
       → IsHistory x.told.history
       → IsInState returning before s x
-      → IsCalm returning s.geometry (is_open x.session) before y.told.history
+      → StaysWithinTolerance returning s.geometry (is_open x.session) before y.told.history
       → IsLed returning m before s step answer y
   -- what a crash at a moment of it leaves is what one within the step leaves
   pub cuts : IsTrue y.told.honest → (before : List Happening) (s : State)
       → IsHistory x.told.history
       → IsInState returning before s x → (c : List Happening)
       → IsMoment x.told.history c y.told.history
-      → IsCalm returning s.geometry (is_open x.session) before c
+      → StaysWithinTolerance returning s.geometry (is_open x.session) before c
       → EachImage (IsLeftBy returning step m before c s) c
   -- and it is done where it can be
   pub complete : IsTrue y.told.honest → (before : List Happening) (s : State)
       → IsHistory x.told.history
       → IsInState returning before s x
-      → IsCalm returning s.geometry (is_open x.session) before y.told.history
-      → IsCalmUnread returning s.geometry (is_open x.session) before y.told.history
+      → StaysWithinTolerance returning s.geometry (is_open x.session) before y.told.history
+      → StaysWithinToleranceUnread returning s.geometry (is_open x.session) before y.told.history
       → CanBeDone step s m x.told.history y.told.history → IsOk answer

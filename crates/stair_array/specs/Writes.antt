@@ -7,8 +7,8 @@ use Rattle.stair_member.specs.Current.{IsCurrent}
 use Rattle.stair_member.specs.Seats.{Seats}
 use Rattle.stair_state.specs.Represents.{Represents}
 use Rattle.stair_state.specs.State.{BlocksAre, State}
-use Rattle.stair_session.specs.SeatSteps.{EachMayDrop}
-use Rattle.stair_session.specs.Session.{seats_in}
+use Rattle.stair_invariant.specs.SeatSteps.{EachMayDrop}
+use Rattle.stair_invariant.specs.Session.{seats_in}
 use Rattle.stair_array.specs.Machine.{IsAsItWas, MayBeCut}
 
 -- The rack represents the state before it, the one with the blocks set, or the one with the write in doubt, a word on seats aside.

@@ -2,17 +2,17 @@
 ghost use Rattle.std.specs.Prelude.{◌≡◌, None};
 ghost use Rattle.stair_rack.specs.Told.{told};
 ghost use Rattle.stair_member.specs.Establishing.{Joins};
-ghost use Rattle.stair_member.specs.declared.aim.Aim.TheVariants.{Admit};
+ghost use Rattle.stair_member.specs.declared.aim.EpochChange.TheVariants.{Admit};
 ghost use Rattle.stair_array.specs.Causes.{IsFree};
 ghost use Rattle.stair_array.specs.Mends.{joined_as};
 ghost use Rattle.stair_array.specs.Promise.{Keeps};
 
-use crate::session::Session;
+use crate::session::ArrayCore;
 use stair_base::Slots;
 use stair_member::{AdmitFault, FenceFault, admit};
 use stair_rack::Rack;
 
-impl Session {
+impl ArrayCore {
     // Admits the device in a slot that is free and was made ready. The session stops where the epoch is refused.
     pub(crate) fn admit_slot<R: Rack>(
         &mut self,
@@ -20,7 +20,7 @@ impl Session {
         slot: u8,
     ) -> Result<Slots, AdmitFault>
         requires free { IsFree self.old.member slot }
-        ensures told { Joins (Admit slot) slot self.old.member self.new.member result
+        ensures does { Joins (Admit slot) slot self.old.member self.new.member result
             (told R.Rack rack.old) (told R.Rack rack.new) }
         ensures geometry { self.new.member.array.geometry ≡ self.old.member.array.geometry }
         ensures kept { self.old.stopped ≡ None → Keeps (joined_as result) self.new.stopped }

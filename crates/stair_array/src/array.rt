@@ -8,8 +8,8 @@ ghost use Rattle.stair_member.specs.Membership.{IsMembership};
 ghost use Rattle.stair_member.specs.Seeing.{Sees};
 ghost use Rattle.stair_member.specs.declared.fault.FenceFault.{FenceFault as Fault};
 ghost use Rattle.stair_state.specs.Blocks.{AreOfOneStripe};
-ghost use Rattle.stair_session.specs.Courses.{point};
-ghost use Rattle.stair_session.specs.Session.{IsRebuiltIn};
+ghost use Rattle.stair_invariant.specs.Effects.{snapshot};
+ghost use Rattle.stair_invariant.specs.Session.{IsRebuiltIn};
 ghost use Rattle.stair_array.specs.Arrays.{IsOfRemembered, IsUnderWay, LacksCell, LacksOne, Opens, answer_as, blocks_of, cells_of, outcome, state_of};
 ghost use Rattle.stair_array.specs.Calls.{AreOfBlocks, Reads, WritesBlocks};
 ghost use Rattle.stair_array.specs.Causes.{IsFree, IsNextChunk};
@@ -24,7 +24,7 @@ ghost use Rattle.stair_array.specs.Promise.{Keeps, rebuild_after};
 use crate::fault::{ArrayFault, RecoverFault};
 use crate::news::News;
 use crate::rebuilding::{Rebuild, left_of, left_past};
-use crate::session::Session;
+use crate::session::ArrayCore;
 use stair_base::{Geometry, SECTOR, StripeCode};
 use stair_member::{AdmitFault, FenceFault, Member};
 use stair_rack::Rack;
@@ -38,7 +38,7 @@ use std::marker::Model;
 /// `EpochsSpent`, stops the array: from then on each call that takes the rack answers the same, and does nothing.
 #[derive(Drop)]
 pub struct Array<C: StripeCode> {
-    session: Session,
+    session: ArrayCore,
     code: C,
     rebuild: Option<Rebuild>,
     // the stripe whose cells the session's buffer has, where a read restored it and no other step came since
@@ -84,7 +84,7 @@ impl<C: StripeCode> Array<C> {
         code: C,
     ) -> Result<Array<C>, RecoverFault>
         requires { C.shape code ≡ member.array.geometry }
-        ensures told { Opens (point member (told R.Rack rack.old)) (told R.Rack rack.new) result }
+        ensures does { Opens (snapshot member (told R.Rack rack.old)) (told R.Rack rack.new) result }
         ensures memory { IfErr result (λ fault. fault ≡ RecoverFault.Memory →
             rack.new ≡ rack.old) }
         ensures goes { IfOk result (λ array. array.stopped ≡ None) }
@@ -94,7 +94,7 @@ impl<C: StripeCode> Array<C> {
             member.array array.member.array no_news array.news) }
     {
         let before = member;
-        let Ok(mut session) = Session::new(alloc, member) else {
+        let Ok(mut session) = ArrayCore::new(alloc, member) else {
             return Err(RecoverFault::Memory);
         };
         session.recover(rack)?;
@@ -125,10 +125,10 @@ impl<C: StripeCode> Array<C> {
         block: u64,
         into: &mut [u8; SECTOR],
     ) -> Result<(), ArrayFault>
-        ensures told { self.old.stopped ≡ None →
+        ensures does { self.old.stopped ≡ None →
             Reads block self.old.remembered self.new.remembered (answer_as into.new result)
-            (point self.old.member (told R.Rack rack.old))
-            (point self.new.member (told R.Rack rack.new)) }
+            (snapshot self.old.member (told R.Rack rack.old))
+            (snapshot self.new.member (told R.Rack rack.new)) }
         ensures kept { self.old.stopped ≡ None → Keeps (answer_as into.new result) self.new.stopped }
         ensures stopped { (fault : Fault) → self.old.stopped ≡ Some fault →
             (result ≡ Err (array_fault fault)) × (rack.new ≡ rack.old) × (self.new ≡ self.old) }
@@ -142,7 +142,7 @@ impl<C: StripeCode> Array<C> {
         ensures shared { IfOk result (λ _. RisesAtMost 1 (R.reads rack.old) (R.reads rack.new) ⊎
             IsOfRemembered self.new.member.array.geometry self.new.remembered block) }
         ensures once { RisesAtMost 1 (R.reads rack.old) (R.reads rack.new) ⊎
-            LacksCell block (point self.old.member (told R.Rack rack.old)) (told R.Rack rack.new) }
+            LacksCell block (snapshot self.old.member (told R.Rack rack.old)) (told R.Rack rack.new) }
         ensures reads { RisesAtMost (1 + cells_of self.old.member.array.geometry)
             (R.reads rack.old) (R.reads rack.new) }
     {
@@ -175,9 +175,9 @@ impl<C: StripeCode> Array<C> {
         block: u64,
         from: &[u8; SECTOR],
     ) -> Result<(), ArrayFault>
-        ensures told { self.old.stopped ≡ None → WritesBlocks block (from.now ∷ []) (outcome result)
-            (point self.old.member (told R.Rack rack.old))
-            (point self.new.member (told R.Rack rack.new)) }
+        ensures does { self.old.stopped ≡ None → WritesBlocks block (from.now ∷ []) (outcome result)
+            (snapshot self.old.member (told R.Rack rack.old))
+            (snapshot self.new.member (told R.Rack rack.new)) }
         ensures kept { self.old.stopped ≡ None → Keeps (outcome result) self.new.stopped }
         ensures stopped { (fault : Fault) → self.old.stopped ≡ Some fault →
             (result ≡ Err (array_fault fault)) × (rack.new ≡ rack.old) × (self.new ≡ self.old) }
@@ -190,7 +190,7 @@ impl<C: StripeCode> Array<C> {
         ensures once { (cells : Cells) → AreOfBlocks self.old.member.array.geometry block 1 cells →
             RisesAtMost (cell_count cells) (R.reads rack.old) (R.reads rack.new) ⊎
             LacksOne (block / data_cells self.old.member.array.geometry) cells
-            (point self.old.member (told R.Rack rack.old)) (told R.Rack rack.new) }
+            (snapshot self.old.member (told R.Rack rack.old)) (told R.Rack rack.new) }
         ensures reads { RisesAtMost (2 * cells_of self.old.member.array.geometry)
             (R.reads rack.old) (R.reads rack.new) }
     {
@@ -221,9 +221,9 @@ impl<C: StripeCode> Array<C> {
         requires whole { length from.now % 512 ≡ 0 }
         requires together { AreOfOneStripe self.old.member.array.geometry first
             (length from.now / 512) }
-        ensures told { self.old.stopped ≡ None → WritesBlocks first (blocks_of from.now) (outcome result)
-            (point self.old.member (told R.Rack rack.old))
-            (point self.new.member (told R.Rack rack.new)) }
+        ensures does { self.old.stopped ≡ None → WritesBlocks first (blocks_of from.now) (outcome result)
+            (snapshot self.old.member (told R.Rack rack.old))
+            (snapshot self.new.member (told R.Rack rack.new)) }
         ensures kept { self.old.stopped ≡ None → Keeps (outcome result) self.new.stopped }
         ensures stopped { (fault : Fault) → self.old.stopped ≡ Some fault →
             (result ≡ Err (array_fault fault)) × (rack.new ≡ rack.old) × (self.new ≡ self.old) }
@@ -239,7 +239,7 @@ impl<C: StripeCode> Array<C> {
             AreOfBlocks self.old.member.array.geometry first (length from.now / 512) cells →
             RisesAtMost (cell_count cells) (R.reads rack.old) (R.reads rack.new) ⊎
             LacksOne (first / data_cells self.old.member.array.geometry) cells
-            (point self.old.member (told R.Rack rack.old)) (told R.Rack rack.new) }
+            (snapshot self.old.member (told R.Rack rack.old)) (told R.Rack rack.new) }
         ensures reads { RisesAtMost (2 * cells_of self.old.member.array.geometry)
             (R.reads rack.old) (R.reads rack.new) }
     {
@@ -269,9 +269,9 @@ impl<C: StripeCode> Array<C> {
     /// - `Lost`: as for a read. Nothing is changed, and the array goes on.
     /// - `TooFew`, `EpochsSpent`: an epoch without slots that were gone was refused. The array is stopped.
     pub fn mend_stripe<R: Rack>(&mut self, rack: &mut R, stripe: u32) -> Result<u16, ArrayFault>
-        ensures told { self.old.stopped ≡ None → Scrubs stripe (outcome result)
-            (point self.old.member (told R.Rack rack.old))
-            (point self.new.member (told R.Rack rack.new)) }
+        ensures does { self.old.stopped ≡ None → Scrubs stripe (outcome result)
+            (snapshot self.old.member (told R.Rack rack.old))
+            (snapshot self.new.member (told R.Rack rack.new)) }
         ensures kept { self.old.stopped ≡ None → Keeps (outcome result) self.new.stopped }
         ensures stopped { (fault : Fault) → self.old.stopped ≡ Some fault →
             (result ≡ Err (array_fault fault)) × (rack.new ≡ rack.old) × (self.new ≡ self.old) }
@@ -317,7 +317,7 @@ impl<C: StripeCode> Array<C> {
         ensures remembers { self.new.remembered ≡ self.old.remembered }
         ensures news { self.new.news ≡ self.old.news }
     {
-        self.session.member.see(slot, first, second);
+        self.session.member.observe(slot, first, second);
     }
 
     /// Admits the device in a slot that is Down, by an epoch in which the slot is Rebuilding. What its medium holds is to be taken in
@@ -327,9 +327,9 @@ impl<C: StripeCode> Array<C> {
     /// - `TooFew`, `EpochsSpent`: the epoch was refused. The array is stopped.
     pub fn admit_slot<R: Rack>(&mut self, rack: &mut R, slot: u8) -> Result<(), AdmitFault>
         requires free { IsFree self.old.member slot }
-        ensures told { self.old.stopped ≡ None → AdmitsSlot slot (admitted_as result)
-            (point self.old.member (told R.Rack rack.old))
-            (point self.new.member (told R.Rack rack.new)) }
+        ensures does { self.old.stopped ≡ None → AdmitsSlot slot (admitted_as result)
+            (snapshot self.old.member (told R.Rack rack.old))
+            (snapshot self.new.member (told R.Rack rack.new)) }
         ensures kept { self.old.stopped ≡ None → Keeps (admitted_as result) self.new.stopped }
         ensures stopped { (fault : Fault) → self.old.stopped ≡ Some fault →
             (result ≡ Err (of_fence fault)) × (rack.new ≡ rack.old) × (self.new ≡ self.old) }
@@ -381,10 +381,10 @@ impl<C: StripeCode> Array<C> {
     ) -> Result<(), ArrayFault>
         requires next { IsNextChunk (state_of self.old) slot stripe }
         requires stripe { stripe < self.old.member.array.geometry.stripes }
-        ensures told { self.old.stopped ≡ None →
+        ensures does { self.old.stopped ≡ None →
             WritesNext slot stripe (chunk_as slot self.new.member result)
-            (point self.old.member (told R.Rack rack.old))
-            (point self.new.member (told R.Rack rack.new)) }
+            (snapshot self.old.member (told R.Rack rack.old))
+            (snapshot self.new.member (told R.Rack rack.new)) }
         ensures kept { self.old.stopped ≡ None → Keeps (outcome result) self.new.stopped }
         ensures stopped { (fault : Fault) → self.old.stopped ≡ Some fault →
             (result ≡ Err (array_fault fault)) × (rack.new ≡ rack.old) × (self.new ≡ self.old) }
@@ -419,9 +419,9 @@ impl<C: StripeCode> Array<C> {
     pub fn promote_slot<R: Rack>(&mut self, rack: &mut R, slot: u8) -> Result<(), AdmitFault>
         requires written { self.old.rebuild ≡
             Some (record { slot = slot; stripe = self.old.member.array.geometry.stripes }) }
-        ensures told { self.old.stopped ≡ None → Promotes slot (promotion_as slot result)
-            (point self.old.member (told R.Rack rack.old))
-            (point self.new.member (told R.Rack rack.new)) }
+        ensures does { self.old.stopped ≡ None → Promotes slot (promotion_as slot result)
+            (snapshot self.old.member (told R.Rack rack.old))
+            (snapshot self.new.member (told R.Rack rack.new)) }
         ensures kept { self.old.stopped ≡ None → Keeps (promotion_as slot result) self.new.stopped }
         ensures stopped { (fault : Fault) → self.old.stopped ≡ Some fault →
             (result ≡ Err (of_fence fault)) × (rack.new ≡ rack.old) × (self.new ≡ self.old) }
@@ -453,10 +453,10 @@ impl<C: StripeCode> Array<C> {
     /// - `TooFew`, `EpochsSpent`: the epoch was refused. The array is stopped, and its next opening finds the mark as it was, or as it
     ///   was to be.
     pub fn set_frozen<R: Rack>(&mut self, rack: &mut R, frozen: bool) -> Result<(), ArrayFault>
-        ensures told { self.old.stopped ≡ None →
+        ensures does { self.old.stopped ≡ None →
             StampsAs frozen self.old.member.array.label (outcome result)
-            (point self.old.member (told R.Rack rack.old))
-            (point self.new.member (told R.Rack rack.new)) }
+            (snapshot self.old.member (told R.Rack rack.old))
+            (snapshot self.new.member (told R.Rack rack.new)) }
         ensures kept { self.old.stopped ≡ None → Keeps (outcome result) self.new.stopped }
         ensures stopped { (fault : Fault) → self.old.stopped ≡ Some fault →
             (result ≡ Err (array_fault fault)) × (rack.new ≡ rack.old) × (self.new ≡ self.old) }
@@ -475,10 +475,10 @@ impl<C: StripeCode> Array<C> {
     /// - `TooFew`, `EpochsSpent`: the epoch was refused. The array is stopped, and its next opening finds the label as it was, or as it
     ///   was to be.
     pub fn set_label<R: Rack>(&mut self, rack: &mut R, label: Label) -> Result<(), ArrayFault>
-        ensures told { self.old.stopped ≡ None →
+        ensures does { self.old.stopped ≡ None →
             StampsAs self.old.member.array.frozen label (outcome result)
-            (point self.old.member (told R.Rack rack.old))
-            (point self.new.member (told R.Rack rack.new)) }
+            (snapshot self.old.member (told R.Rack rack.old))
+            (snapshot self.new.member (told R.Rack rack.new)) }
         ensures kept { self.old.stopped ≡ None → Keeps (outcome result) self.new.stopped }
         ensures stopped { (fault : Fault) → self.old.stopped ≡ Some fault →
             (result ≡ Err (array_fault fault)) × (rack.new ≡ rack.old) × (self.new ≡ self.old) }
@@ -494,9 +494,9 @@ impl<C: StripeCode> Array<C> {
 
     // Establishes an epoch with this frozen mark and label.
     fn stamp<R: Rack>(&mut self, rack: &mut R, frozen: bool, label: Label) -> Result<(), ArrayFault>
-        ensures told { self.old.stopped ≡ None → StampsAs frozen label (outcome result)
-            (point self.old.member (told R.Rack rack.old))
-            (point self.new.member (told R.Rack rack.new)) }
+        ensures does { self.old.stopped ≡ None → StampsAs frozen label (outcome result)
+            (snapshot self.old.member (told R.Rack rack.old))
+            (snapshot self.new.member (told R.Rack rack.new)) }
         ensures kept { self.old.stopped ≡ None → Keeps (outcome result) self.new.stopped }
         ensures stopped { (fault : Fault) → self.old.stopped ≡ Some fault →
             (result ≡ Err (array_fault fault)) × (rack.new ≡ rack.old) × (self.new ≡ self.old) }

@@ -83,7 +83,7 @@ fn look_at<R: Rack>(rack: &mut R, geometry: &Geometry, slot: u8) -> Result<(), C
 fn find<R: Rack>(rack: &mut R, geometry: &Geometry, slot: u8) -> Found
     requires { slot < 32 }
     ensures began { IsTrue R.is_honest → IsHistory (R.history rack.old) }
-    ensures told { IsFoundAs geometry.now slot (told R.Rack rack.old) (told R.Rack rack.new)
+    ensures does { IsFoundAs geometry.now slot (told R.Rack rack.old) (told R.Rack rack.new)
         result }
     ensures taken { IsTrue R.is_honest → result ≡ Found.Bare → slot < geometry.now.n →
         IsTaken geometry.now slot (R.history rack.old) (R.history rack.new) }
@@ -113,7 +113,7 @@ fn find<R: Rack>(rack: &mut R, geometry: &Geometry, slot: u8) -> Found
 // Looks for a superblock in the two superblock places of a slot that was attached.
 fn find_super<R: Rack>(rack: &mut R, slot: u8) -> Found
     requires { slot < 32 }
-    ensures told { IsSearched slot (told R.Rack rack.old) (told R.Rack rack.new) result }
+    ensures does { IsSearched slot (told R.Rack rack.old) (told R.Rack rack.new) result }
     ensures ran { IsTrue R.is_honest →
         Ran (IsReadOf slot) (R.history rack.old) (R.history rack.new) }
     ensures counts { NoneFalls (R.bads rack.old) (R.bads rack.new) (R.gones rack.old)

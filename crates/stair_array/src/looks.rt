@@ -2,7 +2,7 @@
 
 ghost use Rattle.std.specs.Prelude.{List};
 ghost use Rattle.stair_rack.specs.declared.watcher.Event.{Event};
-ghost use Rattle.stair_session.specs.Returning.{NoneReturns};
+ghost use Rattle.stair_invariant.specs.Returning.{NoneReturns};
 ghost use Rattle.stair_array.specs.Machine.{Answer, LookAtSeats};
 ghost use Rattle.stair_array.specs.Promise.{LeadsStep, Performs, Seen};
 

@@ -10,8 +10,8 @@ ghost use Rattle.stair_member.specs.Seats.{Seats};
 ghost use Rattle.stair_member.specs.declared.why.Why.{Why};
 ghost use Rattle.stair_state.specs.Blocks.{with_block, with_blocks, zero_block, zero_blocks};
 ghost use Rattle.stair_state.specs.State.{BlocksAre, State, created_state, first_content, first_seats};
-ghost use Rattle.stair_session.specs.Returning.{IsCalm, Returning, StandsFor};
-ghost use Rattle.stair_session.specs.Session.{ArrayState};
+ghost use Rattle.stair_invariant.specs.Returning.{StaysWithinTolerance, Returning, StandsFor};
+ghost use Rattle.stair_invariant.specs.Session.{ArrayState};
 ghost use Rattle.stair_rack.specs.declared.watcher.Event.{Event};
 ghost use Rattle.stair_array.specs.Examples.{all_but, doubtful, holding, new_with};
 ghost use Rattle.stair_array.specs.Machine.{Answer, Chunk, CutWithin, Dropped, LookAtSeats, Nothing, OutOfRange, Promoted, ReadBlock, RebuildNext, Recover, ReplaceSlot, Row, ScrubStripe, SetFrozen, SetLabel, Step, TooFew, WriteBlocks, write_block};
@@ -86,7 +86,7 @@ pub fn promise_laws()
     ensures reads { (returning : Returning) (m : Membership) (b : ℕ) (bytes : List ℕ) (x y : Seen)
         (before : List Happening) (s : State) → LeadsStep returning m (ReadBlock b) (Ok bytes) x y →
         IsTrue y.told.honest → IsHistory x.told.history → IsInState returning before s x →
-        IsCalm returning s.geometry (is_open x.session) before y.told.history →
+        StaysWithinTolerance returning s.geometry (is_open x.session) before y.told.history →
         (bytes ≡ s.content.blocks b) × ((state : State) × (state.content ≡ s.content)
         × StandsFor returning state y.told.history) }
     // and one that was written is there from then on, with nothing in doubt
@@ -94,7 +94,7 @@ pub fn promise_laws()
         (contents : List (List ℕ)) (x y : Seen) (before : List Happening) (s : State) →
         LeadsStep returning m (WriteBlocks first contents) (Ok tt) x y → IsTrue y.told.honest → IsHistory x.told.history →
         IsInState returning before s x →
-        IsCalm returning s.geometry (is_open x.session) before y.told.history →
+        StaysWithinTolerance returning s.geometry (is_open x.session) before y.told.history →
         (state : State) × (state.content.blocks ≡ with_blocks s.content.blocks first contents)
         × (state.in_doubt ≡ None) × StandsFor returning state y.told.history }
 {}

@@ -5,13 +5,13 @@ ghost use Rattle.stair_model.specs.Slots.{HasSlot};
 ghost use Rattle.stair_rack.specs.RackCounts.{RisesAtMost};
 ghost use Rattle.stair_rack.specs.Told.{told};
 ghost use Rattle.stair_stripes.specs.Gathering.{IsCellOf};
-ghost use Rattle.stair_session.specs.Courses.{point};
+ghost use Rattle.stair_invariant.specs.Effects.{snapshot};
 ghost use Rattle.stair_array.specs.Arrays.{cells_of, outcome};
 ghost use Rattle.stair_array.specs.Mends.{Scrubs, StampsAs};
 ghost use Rattle.stair_array.specs.Promise.{Keeps};
 
 use crate::fault::ArrayFault;
-use crate::session::Session;
+use crate::session::ArrayCore;
 use stair_base::{CellSet, Geometry, Slots, StripeCode};
 use stair_journal::Redo;
 use stair_member::stamp;
@@ -19,7 +19,7 @@ use stair_rack::Rack;
 use stair_stripes::gather;
 use stair_super::Label;
 
-impl Session {
+impl ArrayCore {
     // Gathers a stripe, leaves out the slots that were gone, and writes what couldn't be read of it on the slots that are live
     // then anew, by a redo. How many cells that is.
     pub(crate) fn scrub<R: Rack, C: StripeCode>(
@@ -30,9 +30,9 @@ impl Session {
     ) -> Result<u16, ArrayFault>
         requires fits { C.shape code.old ≡ self.old.member.array.geometry }
         requires stripe { stripe < self.old.member.array.geometry.stripes }
-        ensures told { Scrubs stripe (outcome result)
-            (point self.old.member (told R.Rack rack.old))
-            (point self.new.member (told R.Rack rack.new)) }
+        ensures does { Scrubs stripe (outcome result)
+            (snapshot self.old.member (told R.Rack rack.old))
+            (snapshot self.new.member (told R.Rack rack.new)) }
         ensures fits { C.shape code.new ≡ self.new.member.array.geometry }
         ensures geometry { self.new.member.array.geometry ≡ self.old.member.array.geometry }
         ensures kept { self.old.stopped ≡ None → Keeps (outcome result) self.new.stopped }
@@ -42,7 +42,7 @@ impl Session {
         let geometry = self.member.geometry();
         let live = self.live();
         let gathered = gather(rack, &geometry, live, stripe, &mut self.stripe);
-        self.leave_out(rack, gathered.gone)?;
+        self.fence_if_any(rack, gathered.gone)?;
         let still_live = self.live();
         let cells = cells_on(&geometry, &gathered.erased, &still_live);
         let count = cells.count();
@@ -68,9 +68,9 @@ impl Session {
         frozen: bool,
         label: Label,
     ) -> Result<(), ArrayFault>
-        ensures told { StampsAs frozen label (outcome result)
-            (point self.old.member (told R.Rack rack.old))
-            (point self.new.member (told R.Rack rack.new)) }
+        ensures does { StampsAs frozen label (outcome result)
+            (snapshot self.old.member (told R.Rack rack.old))
+            (snapshot self.new.member (told R.Rack rack.new)) }
         ensures geometry { self.new.member.array.geometry ≡ self.old.member.array.geometry }
         ensures kept { self.old.stopped ≡ None → Keeps (outcome result) self.new.stopped }
         ensures reads { R.reads rack.new ≡ R.reads rack.old }

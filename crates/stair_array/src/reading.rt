@@ -4,21 +4,21 @@ ghost use Rattle.stair_model.specs.Device.{cell_sector as sector_of};
 ghost use Rattle.stair_model.specs.Geometry.{block_count};
 ghost use Rattle.stair_rack.specs.RackCounts.{RisesAtMost};
 ghost use Rattle.stair_rack.specs.Sector.{Good};
-ghost use Rattle.stair_rack.specs.Telling.{IsLater, IsReading};
+ghost use Rattle.stair_rack.specs.RackState.{IsLater, IsReading};
 ghost use Rattle.stair_rack.specs.Told.{told};
-ghost use Rattle.stair_session.specs.Courses.{point};
+ghost use Rattle.stair_invariant.specs.Effects.{snapshot};
 ghost use Rattle.stair_array.specs.Arrays.{cells_of, outcome};
 ghost use Rattle.stair_array.specs.Calls.{AsksFor, CannotHave, IsInPlace, LoadsStripe};
 ghost use Rattle.stair_array.specs.Promise.{Keeps};
 
 use crate::fault::ArrayFault;
-use crate::session::Session;
+use crate::session::ArrayCore;
 use stair_base::{Place, SECTOR, StripeCode};
 use stair_member::Why;
 use stair_rack::{Got, Rack};
 use stair_stripes::gather;
 
-impl Session {
+impl ArrayCore {
     // Where a block lies, or that there is none.
     pub(crate) fn place_of(&self, block: u64) -> Result<Place, ArrayFault>
         ensures place { IfOk result (λ place.
@@ -50,15 +50,15 @@ impl Session {
         requires stripe { place.stripe < self.now.member.array.geometry.stripes }
         requires row { place.row < self.now.member.array.geometry.r }
         requires slot { place.slot < self.now.member.array.geometry.n }
-        ensures told { MatchBool result
+        ensures does { MatchBool result
             (AsksFor place.stripe place.row place.slot Got.Good
-            (point self.now.member (told R.Rack rack.old))
-            (point self.now.member (told R.Rack rack.new)) ×
+            (snapshot self.now.member (told R.Rack rack.old))
+            (snapshot self.now.member (told R.Rack rack.new)) ×
             IsReading place.slot (sector_of self.now.member.array.geometry place.stripe place.row)
             (told R.Rack rack.old) (told R.Rack rack.new) (Good into.new))
             (CannotHave place.stripe place.row place.slot
-            (point self.now.member (told R.Rack rack.old))
-            (point self.now.member (told R.Rack rack.new)) × (into.new ≡ into.old)) }
+            (snapshot self.now.member (told R.Rack rack.old))
+            (snapshot self.now.member (told R.Rack rack.new)) × (into.new ≡ into.old)) }
         ensures reads { RisesAtMost 1 (R.reads rack.old) (R.reads rack.new) }
     {
         let sector = self.member.geometry().cell_sector(place.stripe, place.row);
@@ -81,9 +81,9 @@ impl Session {
     ) -> Result<(), ArrayFault>
         requires fits { C.shape code.old ≡ self.old.member.array.geometry }
         requires stripe { stripe < self.old.member.array.geometry.stripes }
-        ensures told { LoadsStripe stripe self.new.stripe (outcome result)
-            (point self.old.member (told R.Rack rack.old))
-            (point self.new.member (told R.Rack rack.new)) }
+        ensures does { LoadsStripe stripe self.new.stripe (outcome result)
+            (snapshot self.old.member (told R.Rack rack.old))
+            (snapshot self.new.member (told R.Rack rack.new)) }
         ensures later { IsLater (told R.Rack rack.old) (told R.Rack rack.new) }
         ensures fits { C.shape code.new ≡ self.new.member.array.geometry }
         ensures geometry { self.new.member.array.geometry ≡ self.old.member.array.geometry }
@@ -94,7 +94,7 @@ impl Session {
         let geometry = self.member.geometry();
         let live = self.live();
         let gathered = gather(rack, &geometry, live, stripe, &mut self.stripe);
-        self.leave_out(rack, gathered.gone)?;
+        self.fence_if_any(rack, gathered.gone)?;
         match code.restore(&mut self.stripe, &gathered.erased) {
             Ok(()) => Ok(()),
             Err(_) => Err(ArrayFault::Lost {

@@ -5,7 +5,7 @@ ghost use Rattle.stair_model.specs.Geometry.{block_count};
 ghost use Rattle.stair_rack.specs.History.{Happening};
 ghost use Rattle.stair_rack.specs.declared.watcher.Event.{Event};
 ghost use Rattle.stair_state.specs.State.{State};
-ghost use Rattle.stair_session.specs.Returning.{IsCalm, NoneReturns};
+ghost use Rattle.stair_invariant.specs.Returning.{StaysWithinTolerance, NoneReturns};
 ghost use Rattle.stair_array.specs.Machine.{Answer, EpochsSpent, ReadBlock, Refusal};
 ghost use Rattle.stair_array.specs.Promise.{IsInState, LeadsStep, Performs, Seen, is_open};
 
@@ -22,6 +22,6 @@ pub fn read_laws()
         (refusal : Refusal) (x y : Seen) (p : Performs (ReadBlock b) answer events x y) →
         IsTrue y.told.honest → (before : List Happening) (s : State) →
         IsInState NoneReturns before s x →
-        IsCalm NoneReturns s.geometry (is_open x.session) before y.told.history →
+        StaysWithinTolerance NoneReturns s.geometry (is_open x.session) before y.told.history →
         b < block_count s.geometry → answer ≡ Err refusal → refusal ≡ EpochsSpent }
 {}

@@ -4,18 +4,18 @@ ghost use Rattle.stair_model.specs.CellSet.{IsCellSet};
 ghost use Rattle.stair_rack.specs.RackCounts.{RisesAtMost};
 ghost use Rattle.stair_rack.specs.Told.{told};
 ghost use Rattle.stair_member.specs.Establishing.{refusal_of};
-ghost use Rattle.stair_session.specs.Chunks.{AreOfChunk};
-ghost use Rattle.stair_session.specs.Courses.{point};
-ghost use Rattle.stair_session.specs.Session.{IsRebuiltIn};
+ghost use Rattle.stair_invariant.specs.Chunks.{AreOfChunk};
+ghost use Rattle.stair_invariant.specs.Effects.{snapshot};
+ghost use Rattle.stair_invariant.specs.Session.{IsRebuiltIn};
 ghost use Rattle.stair_array.specs.Arrays.{cells_of, outcome};
 ghost use Rattle.stair_array.specs.Causes.{IsLowestRebuilt, IsNextChunk};
 ghost use Rattle.stair_array.specs.MendingCalls.{chunk_as, promotion_as, rebuild_past};
 ghost use Rattle.stair_array.specs.MendingSteps.{WritesNext};
-ghost use Rattle.stair_array.specs.Mends.{Drops, Promotes};
+ghost use Rattle.stair_array.specs.Mends.{FencesSlot, Promotes};
 ghost use Rattle.stair_array.specs.Promise.{Keeps, rebuild_after, running};
 
 use crate::fault::ArrayFault;
-use crate::session::Session;
+use crate::session::ArrayCore;
 use stair_base::{CellSet, Geometry, Slots, StripeCode};
 use stair_journal::Redo;
 use stair_member::{AdmitFault, FenceFault, Member, Why, promote};
@@ -32,7 +32,7 @@ pub(crate) struct Rebuild {
 
 impl Model for Rebuild {
     ghost use Rattle.std.specs.Prelude.{◌<◌};
-    ghost use Rattle.stair_session.specs.Rebuilding.{Rebuild as UnderWay};
+    ghost use Rattle.stair_invariant.specs.Rebuilding.{Rebuild as UnderWay};
 
     ghost Value = { UnderWay };
 
@@ -109,7 +109,7 @@ pub(crate) fn left_past(
     }
 }
 
-impl Session {
+impl ArrayCore {
     // The next chunk of a rebuild: of the one that is under way, else of the lowest slot that is rebuilt, from its first stripe on.
     pub(crate) fn next_of(&self, rebuild: Option<Rebuild>) -> Option<Rebuild>
         ensures none { result ≡ None → (rebuild ≡ None)
@@ -148,9 +148,9 @@ impl Session {
         requires fits { C.shape code.old ≡ self.old.member.array.geometry }
         requires rebuilt { IsRebuiltIn self.old.member slot }
         requires stripe { stripe < self.old.member.array.geometry.stripes }
-        ensures told { WritesNext slot stripe (chunk_as slot self.new.member result)
-            (point self.old.member (told R.Rack rack.old))
-            (point self.new.member (told R.Rack rack.new)) }
+        ensures does { WritesNext slot stripe (chunk_as slot self.new.member result)
+            (snapshot self.old.member (told R.Rack rack.old))
+            (snapshot self.new.member (told R.Rack rack.new)) }
         ensures fits { C.shape code.new ≡ self.new.member.array.geometry }
         ensures geometry { self.new.member.array.geometry ≡ self.old.member.array.geometry }
         ensures kept { self.old.stopped ≡ None → Keeps (outcome result) self.new.stopped }
@@ -169,7 +169,7 @@ impl Session {
             cells: chunk_of(&geometry, slot),
         };
         if write_chunk(rack, &geometry, slot, &redo, &self.stripe) == Reply::Gone {
-            self.drop_slot(rack, slot)?;
+            self.fence_slot(rack, slot)?;
         }
         Ok(())
     }
@@ -177,9 +177,9 @@ impl Session {
     // Promotes a slot all of whose chunks were written, once they are on the disk. Where it was gone it is left out.
     pub(crate) fn promote_slot<R: Rack>(&mut self, rack: &mut R, slot: u8) -> Result<(), AdmitFault>
         requires rebuilt { IsRebuiltIn self.old.member slot }
-        ensures told { Promotes slot (promotion_as slot result)
-            (point self.old.member (told R.Rack rack.old))
-            (point self.new.member (told R.Rack rack.new)) }
+        ensures does { Promotes slot (promotion_as slot result)
+            (snapshot self.old.member (told R.Rack rack.old))
+            (snapshot self.new.member (told R.Rack rack.new)) }
         ensures geometry { self.new.member.array.geometry ≡ self.old.member.array.geometry }
         ensures kept { self.old.stopped ≡ None → Keeps (promotion_as slot result) self.new.stopped }
         ensures reads { R.reads rack.new ≡ R.reads rack.old }
@@ -187,7 +187,7 @@ impl Session {
         // by whose rules the slot is below 32
         let _ = self.member.geometry().n();
         if rack.sync(slot) == Reply::Gone {
-            self.drop_slot(rack, slot)?;
+            self.fence_slot(rack, slot)?;
             return Err(AdmitFault::Gone(slot));
         }
         let joined = promote(rack, &mut self.member, slot);
@@ -197,11 +197,11 @@ impl Session {
     }
 
     // Leaves out a slot that was gone.
-    fn drop_slot<R: Rack>(&mut self, rack: &mut R, slot: u8) -> Result<(), FenceFault>
+    fn fence_slot<R: Rack>(&mut self, rack: &mut R, slot: u8) -> Result<(), FenceFault>
         requires { slot < self.old.member.array.geometry.n }
-        ensures told { Drops slot (refusal_of result)
-            (point self.old.member (told R.Rack rack.old))
-            (point self.new.member (told R.Rack rack.new)) }
+        ensures does { FencesSlot slot (refusal_of result)
+            (snapshot self.old.member (told R.Rack rack.old))
+            (snapshot self.new.member (told R.Rack rack.new)) }
         ensures geometry { self.new.member.array.geometry ≡ self.old.member.array.geometry }
         ensures goes_on { OnOk result (self.new.stopped ≡ self.old.stopped) }
         ensures stops { IfErr result (λ fault. self.new.stopped ≡ Some fault) }
@@ -211,7 +211,7 @@ impl Session {
         let _ = self.member.geometry().n();
         let mut gone = Slots::empty();
         gone.add(slot);
-        self.leave_out(rack, gone)
+        self.fence_if_any(rack, gone)
     }
 }
 

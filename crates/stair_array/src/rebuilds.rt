@@ -4,7 +4,7 @@ ghost use Rattle.std.specs.Prelude.{◌≡◌, IsTrue, List, Err};
 ghost use Rattle.stair_rack.specs.History.{Happening};
 ghost use Rattle.stair_rack.specs.declared.watcher.Event.{Event};
 ghost use Rattle.stair_state.specs.State.{State};
-ghost use Rattle.stair_session.specs.Returning.{IsCalm, NoneReturns};
+ghost use Rattle.stair_invariant.specs.Returning.{StaysWithinTolerance, NoneReturns};
 ghost use Rattle.stair_array.specs.Machine.{Answer, EpochsSpent, RebuildNext, Refusal};
 ghost use Rattle.stair_array.specs.Promise.{IsInState, LeadsStep, Performs, Seen, is_open};
 
@@ -20,6 +20,6 @@ pub fn rebuild_laws()
     ensures refused { (answer : Answer RebuildNext) (events : List Event) (refusal : Refusal)
         (x y : Seen) (p : Performs RebuildNext answer events x y) → IsTrue y.told.honest →
         (before : List Happening) (s : State) → IsInState NoneReturns before s x →
-        IsCalm NoneReturns s.geometry (is_open x.session) before y.told.history →
+        StaysWithinTolerance NoneReturns s.geometry (is_open x.session) before y.told.history →
         answer ≡ Err refusal → refusal ≡ EpochsSpent }
 {}

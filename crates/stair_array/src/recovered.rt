@@ -6,11 +6,11 @@ ghost use Rattle.stair_rack.specs.Crash.{CrashMayLeave};
 ghost use Rattle.stair_rack.specs.History.{Happening, Made};
 ghost use Rattle.stair_rack.specs.Media.{Image};
 ghost use Rattle.stair_rack.specs.Moments.{IsMoment};
-ghost use Rattle.stair_rack.specs.Telling.{Telling};
+ghost use Rattle.stair_rack.specs.RackState.{RackState};
 ghost use Rattle.stair_rack.specs.declared.watcher.Event.{Event};
 ghost use Rattle.stair_member.specs.Membership.{IsMembership};
 ghost use Rattle.stair_state.specs.State.{State};
-ghost use Rattle.stair_session.specs.Returning.{IsCalm, NoneReturns};
+ghost use Rattle.stair_invariant.specs.Returning.{StaysWithinTolerance, NoneReturns};
 ghost use Rattle.stair_array.specs.Machine.{EpochsSpent, Recover, Refusal};
 ghost use Rattle.stair_array.specs.Promise.{Begun, IsInState, LeadsStep, Performs, Seen, is_open};
 
@@ -26,7 +26,7 @@ pub fn recovered_laws()
         (refusal : Refusal) (x y : Seen) (p : Performs Recover answer events x y) →
         IsMembership p.was.member → IsTrue y.told.honest → (before : List Happening)
         (s : State) → IsInState NoneReturns before s x →
-        IsCalm NoneReturns s.geometry (is_open x.session) before y.told.history →
+        StaysWithinTolerance NoneReturns s.geometry (is_open x.session) before y.told.history →
         answer ≡ Err refusal → refusal ≡ EpochsSpent }
     // Over what a crash leaves of it the next session begins in the same state, so that an opening in which it is cut again is
     // one of this state too.
@@ -34,8 +34,8 @@ pub fn recovered_laws()
         (p : Performs Recover answer events x y) → IsMembership p.was.member →
         IsTrue y.told.honest → (before : List Happening) (s : State) →
         IsInState NoneReturns before s x → (c : List Happening) (image : Image)
-        (first : Telling) → IsMoment x.told.history c y.told.history →
-        IsCalm NoneReturns s.geometry (is_open x.session) before c → CrashMayLeave c image →
+        (first : RackState) → IsMoment x.told.history c y.told.history →
+        StaysWithinTolerance NoneReturns s.geometry (is_open x.session) before c → CrashMayLeave c image →
         first.history ≡ Made image ∷ [] → IsInState NoneReturns (Made image ∷ []) s
         (record { told = first; session = Begun }) }
 {}

@@ -7,25 +7,25 @@ ghost use Rattle.stair_member.specs.Establishing.{refusal_of};
 ghost use Rattle.stair_journal.specs.Redo.{IsRedo};
 ghost use Rattle.stair_journal.specs.declared.redo.Redo.{Redo as Cells};
 ghost use Rattle.stair_journal.specs.declared.body.Body.{Body as BodyFound};
-ghost use Rattle.stair_session.specs.Courses.{FindsBody, FindsRedo, Replays, point};
+ghost use Rattle.stair_invariant.specs.Effects.{FindsBody, FindsRedo, Replays, snapshot};
 ghost use Rattle.stair_array.specs.Faults.{IsAnsweredAs};
 ghost use Rattle.stair_array.specs.Machine.{Refusal};
 ghost use Rattle.stair_array.specs.Openings.{ClearsJournal, Recovers};
 
 use crate::fault::RecoverFault;
-use crate::session::Session;
+use crate::session::ArrayCore;
 use stair_base::Slots;
 use stair_journal::{Body, Gates, Redo, open_gates, read_body, read_gates};
 use stair_member::FenceFault;
 use stair_rack::Rack;
 
-impl Session {
+impl ArrayCore {
     // Begins: an epoch shuts out each slot that isn't here, before any gate is read.
     pub(crate) fn recover<R: Rack>(&mut self, rack: &mut R) -> Result<(), RecoverFault>
-        ensures told { (answer : Result Numbers Refusal) ×
+        ensures does { (answer : Result Numbers Refusal) ×
             IsAnsweredAs self.old.member.array.geometry result answer ×
-            Recovers answer (point self.old.member (told R.Rack rack.old))
-            (point self.new.member (told R.Rack rack.new)) }
+            Recovers answer (snapshot self.old.member (told R.Rack rack.old))
+            (snapshot self.new.member (told R.Rack rack.new)) }
         ensures geometry { self.new.member.array.geometry ≡ self.old.member.array.geometry }
         ensures goes_on { OnOk result (self.new.stopped ≡ self.old.stopped) }
     {
@@ -36,13 +36,13 @@ impl Session {
 
     // Reads the gates of the live slots, and again without those that were gone, until none was.
     fn find_redo<R: Rack>(&mut self, rack: &mut R) -> Result<Gates, FenceFault>
-        ensures told { MatchResult result
+        ensures does { MatchResult result
             (λ gates. FindsRedo gates.redo gates.opened None
-            (point self.old.member (told R.Rack rack.old))
-            (point self.new.member (told R.Rack rack.new)))
+            (snapshot self.old.member (told R.Rack rack.old))
+            (snapshot self.new.member (told R.Rack rack.new)))
             (λ fault. (redo : Option Cells) (opened : SlotSet) → FindsRedo redo opened (Some fault)
-            (point self.old.member (told R.Rack rack.old))
-            (point self.new.member (told R.Rack rack.new))) }
+            (snapshot self.old.member (told R.Rack rack.old))
+            (snapshot self.new.member (told R.Rack rack.new))) }
         ensures redo { IfOk result (λ gates.
             IfSome gates.redo (IsRedo self.new.member.array.geometry)) }
         ensures geometry { self.new.member.array.geometry ≡ self.old.member.array.geometry }
@@ -55,7 +55,7 @@ impl Session {
             if gates.gone.count() == 0 {
                 return Ok(gates);
             }
-            self.leave_out(rack, gates.gone)?;
+            self.fence_if_any(rack, gates.gone)?;
             live = self.live();
         }
     }
@@ -63,11 +63,11 @@ impl Session {
     // Closes the gates of the live slots, after the redo was done again if there was one.
     fn clear_journal<R: Rack>(&mut self, rack: &mut R, gates: &Gates) -> Result<(), RecoverFault>
         requires { IfSome gates.now.redo (IsRedo self.old.member.array.geometry) }
-        ensures told { (answer : Result Numbers Refusal) ×
+        ensures does { (answer : Result Numbers Refusal) ×
             IsAnsweredAs self.old.member.array.geometry result answer ×
             ClearsJournal gates.now.redo gates.now.opened answer
-            (point self.old.member (told R.Rack rack.old))
-            (point self.new.member (told R.Rack rack.new)) }
+            (snapshot self.old.member (told R.Rack rack.old))
+            (snapshot self.new.member (told R.Rack rack.new)) }
         ensures geometry { self.new.member.array.geometry ≡ self.old.member.array.geometry }
         ensures goes_on { OnOk result (self.new.stopped ≡ self.old.stopped) }
     {
@@ -84,21 +84,21 @@ impl Session {
     // Reads the body of a redo, and leaves out the slots that were gone.
     fn find_body<R: Rack>(&mut self, rack: &mut R, redo: &Redo) -> Result<Body, FenceFault>
         requires { IsRedo self.old.member.array.geometry redo.now }
-        ensures told { MatchResult result
+        ensures does { MatchResult result
             (λ body. FindsBody redo.now body self.old.stripe self.new.stripe None
-            (point self.old.member (told R.Rack rack.old))
-            (point self.new.member (told R.Rack rack.new)))
+            (snapshot self.old.member (told R.Rack rack.old))
+            (snapshot self.new.member (told R.Rack rack.new)))
             (λ fault. (body : BodyFound) ×
             FindsBody redo.now body self.old.stripe self.new.stripe (Some fault)
-            (point self.old.member (told R.Rack rack.old))
-            (point self.new.member (told R.Rack rack.new))) }
+            (snapshot self.old.member (told R.Rack rack.old))
+            (snapshot self.new.member (told R.Rack rack.new))) }
         ensures geometry { self.new.member.array.geometry ≡ self.old.member.array.geometry }
         ensures goes_on { OnOk result (self.new.stopped ≡ self.old.stopped) }
     {
         let geometry = self.member.geometry();
         let live = self.live();
         let body = read_body(rack, &geometry, live, redo, &mut self.stripe);
-        self.leave_out(rack, body.gone)?;
+        self.fence_if_any(rack, body.gone)?;
         Ok(body)
     }
 
@@ -111,16 +111,16 @@ impl Session {
         opened: Slots,
     ) -> Result<(), FenceFault>
         requires { IsRedo self.old.member.array.geometry redo.now }
-        ensures told { Replays redo.now self.old.stripe opened (refusal_of result)
-            (point self.old.member (told R.Rack rack.old))
-            (point self.new.member (told R.Rack rack.new)) }
+        ensures does { Replays redo.now self.old.stripe opened (refusal_of result)
+            (snapshot self.old.member (told R.Rack rack.old))
+            (snapshot self.new.member (told R.Rack rack.new)) }
         ensures geometry { self.new.member.array.geometry ≡ self.old.member.array.geometry }
         ensures goes_on { OnOk result (self.new.stopped ≡ self.old.stopped) }
     {
         let geometry = self.member.geometry();
         let unopened = self.live().difference(&opened);
         let gone = open_gates(rack, unopened, &geometry, redo);
-        self.leave_out(rack, gone)?;
+        self.fence_if_any(rack, gone)?;
         self.finish(rack, redo)
     }
 }

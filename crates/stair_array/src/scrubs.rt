@@ -4,7 +4,7 @@ ghost use Rattle.std.specs.Prelude.{◌≡◌, ◌<◌, ℕ, IsTrue, List, Err};
 ghost use Rattle.stair_rack.specs.History.{Happening};
 ghost use Rattle.stair_rack.specs.declared.watcher.Event.{Event};
 ghost use Rattle.stair_state.specs.State.{State};
-ghost use Rattle.stair_session.specs.Returning.{IsCalm, NoneReturns};
+ghost use Rattle.stair_invariant.specs.Returning.{StaysWithinTolerance, NoneReturns};
 ghost use Rattle.stair_array.specs.Machine.{Answer, EpochsSpent, Refusal, ScrubStripe};
 ghost use Rattle.stair_array.specs.Promise.{IsInState, LeadsStep, Performs, Seen, is_open};
 
@@ -21,6 +21,6 @@ pub fn scrub_laws()
         (refusal : Refusal) (x y : Seen) (p : Performs (ScrubStripe t) answer events x y) →
         IsTrue y.told.honest → (before : List Happening) (s : State) →
         IsInState NoneReturns before s x →
-        IsCalm NoneReturns s.geometry (is_open x.session) before y.told.history →
+        StaysWithinTolerance NoneReturns s.geometry (is_open x.session) before y.told.history →
         t < s.geometry.stripes → answer ≡ Err refusal → refusal ≡ EpochsSpent }
 {}

@@ -4,7 +4,7 @@ ghost use Rattle.stair_model.specs.Slots.{HasSlot};
 ghost use Rattle.stair_model.specs.Stripe.{IsStripeOf};
 ghost use Rattle.stair_rack.specs.Told.{told};
 ghost use Rattle.stair_member.specs.Establishing.{Fences, refusal_of};
-ghost use Rattle.stair_session.specs.Courses.{AreLive, LeavesOut, point};
+ghost use Rattle.stair_invariant.specs.Effects.{AreLive, FencesGone, snapshot};
 
 use stair_base::{Slots, Stripe};
 use stair_member::{FenceFault, Member, Why, fence};
@@ -13,7 +13,7 @@ use std::alloc::{AllocError, Global};
 
 // A session with an array.
 #[derive(Drop)]
-pub(crate) struct Session {
+pub(crate) struct ArrayCore {
     pub(crate) member: Member,
     // the stripe that is worked on
     pub(crate) stripe: Stripe,
@@ -22,14 +22,14 @@ pub(crate) struct Session {
     ghost shape: { IsStripeOf member.array.geometry stripe },
 }
 
-impl Session {
+impl ArrayCore {
     // A session with an array of which this is known. It takes its memory, and calls nothing.
-    pub(crate) fn new(alloc: Global, member: Member) -> Result<Session, AllocError>
+    pub(crate) fn new(alloc: Global, member: Member) -> Result<ArrayCore, AllocError>
         ensures member { IfOk result (λ session. session.member ≡ member) }
         ensures stopped { IfOk result (λ session. session.stopped ≡ None) }
     {
         let stripe = Stripe::new(alloc, &member.geometry())?;
-        Ok(Session {
+        Ok(ArrayCore {
             member,
             stripe,
             stopped: None,
@@ -58,7 +58,7 @@ impl Session {
         leaving: Slots,
     ) -> Result<Slots, FenceFault>
         requires { (j : ℕ) → HasSlot leaving j → j < self.old.member.array.geometry.n }
-        ensures told { Fences leaving self.old.member self.new.member result (told R.Rack rack.old)
+        ensures does { Fences leaving self.old.member self.new.member result (told R.Rack rack.old)
             (told R.Rack rack.new) }
         ensures stripe { self.new.stripe ≡ self.old.stripe }
         ensures goes_on { OnOk result (self.new.stopped ≡ self.old.stopped) }
@@ -73,10 +73,14 @@ impl Session {
     }
 
     // Leaves out the slots that were gone, where there are any.
-    pub(crate) fn leave_out<R: Rack>(&mut self, rack: &mut R, gone: Slots) -> Result<(), FenceFault>
+    pub(crate) fn fence_if_any<R: Rack>(
+        &mut self,
+        rack: &mut R,
+        gone: Slots,
+    ) -> Result<(), FenceFault>
         requires { (j : ℕ) → HasSlot gone j → j < self.old.member.array.geometry.n }
-        ensures told { LeavesOut gone (refusal_of result) (point self.old.member (told R.Rack rack.old))
-            (point self.new.member (told R.Rack rack.new)) }
+        ensures does { FencesGone gone (refusal_of result) (snapshot self.old.member (told R.Rack rack.old))
+            (snapshot self.new.member (told R.Rack rack.new)) }
         ensures geometry { self.new.member.array.geometry ≡ self.old.member.array.geometry }
         ensures stripe { self.new.stripe ≡ self.old.stripe }
         ensures goes_on { OnOk result (self.new.stopped ≡ self.old.stopped) }

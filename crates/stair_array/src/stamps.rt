@@ -4,7 +4,7 @@ ghost use Rattle.std.specs.Prelude.{◌≡◌, ℕ, Bool, IsTrue, List, Err};
 ghost use Rattle.stair_rack.specs.History.{Happening};
 ghost use Rattle.stair_rack.specs.declared.watcher.Event.{Event};
 ghost use Rattle.stair_state.specs.State.{State};
-ghost use Rattle.stair_session.specs.Returning.{IsCalm, NoneReturns};
+ghost use Rattle.stair_invariant.specs.Returning.{StaysWithinTolerance, NoneReturns};
 ghost use Rattle.stair_array.specs.Machine.{Answer, EpochsSpent, Refusal, SetFrozen, SetLabel};
 ghost use Rattle.stair_array.specs.Promise.{IsInState, LeadsStep, Performs, Seen, is_open};
 
@@ -20,7 +20,7 @@ pub fn stamp_laws()
         (events : List Event) (refusal : Refusal) (x y : Seen)
         (p : Performs (SetFrozen frozen) answer events x y) → IsTrue y.told.honest →
         (before : List Happening) (s : State) → IsInState NoneReturns before s x →
-        IsCalm NoneReturns s.geometry (is_open x.session) before y.told.history →
+        StaysWithinTolerance NoneReturns s.geometry (is_open x.session) before y.told.history →
         answer ≡ Err refusal → refusal ≡ EpochsSpent }
     // Both are so of a label.
     ensures label { (label : List ℕ) (answer : Answer (SetLabel label)) (events : List Event)
@@ -30,6 +30,6 @@ pub fn stamp_laws()
         (events : List Event) (refusal : Refusal) (x y : Seen)
         (p : Performs (SetLabel label) answer events x y) → IsTrue y.told.honest →
         (before : List Happening) (s : State) → IsInState NoneReturns before s x →
-        IsCalm NoneReturns s.geometry (is_open x.session) before y.told.history →
+        StaysWithinTolerance NoneReturns s.geometry (is_open x.session) before y.told.history →
         answer ≡ Err refusal → refusal ≡ EpochsSpent }
 {}

@@ -10,8 +10,8 @@ ghost use Rattle.stair_rack.specs.declared.watcher.Event.{Event};
 ghost use Rattle.stair_super.specs.declared.mark.Mark.TheVariants.{Live};
 ghost use Rattle.stair_member.specs.Seats.{Seats};
 ghost use Rattle.stair_state.specs.State.{State};
-ghost use Rattle.stair_session.specs.CutOff.{IsStillThere};
-ghost use Rattle.stair_session.specs.Returning.{IsCalm, NoneReturns};
+ghost use Rattle.stair_invariant.specs.CutOff.{IsStillThere};
+ghost use Rattle.stair_invariant.specs.Returning.{StaysWithinTolerance, NoneReturns};
 ghost use Rattle.stair_array.specs.Machine.{Answer, EpochsSpent, IsFinal, Refusal, WriteBlocks};
 ghost use Rattle.stair_array.specs.Promise.{IsInState, LeadsStep, Performs, Seen, is_open};
 ghost use Rattle.stair_array.specs.Writes.{IsCutOffIn};
@@ -31,7 +31,7 @@ pub fn write_laws()
         (x y : Seen) (p : Performs (WriteBlocks first contents) answer events x y) →
         IsTrue y.told.honest → (before : List Happening) (s : State) →
         IsInState NoneReturns before s x →
-        IsCalm NoneReturns s.geometry (is_open x.session) before y.told.history →
+        StaysWithinTolerance NoneReturns s.geometry (is_open x.session) before y.told.history →
         first < block_count s.geometry → s.content.frozen ≡ false → answer ≡ Err refusal →
         refusal ≡ EpochsSpent }
     // Where more slots were cut off than is tolerated, one that is refused for good leaves the state as it was, with the blocks set

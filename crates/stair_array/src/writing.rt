@@ -5,18 +5,18 @@ ghost use Rattle.stair_model.specs.Geometry.{IsWithinLimits, block_count, data_c
 ghost use Rattle.stair_model.specs.Slots.{HasSlot};
 ghost use Rattle.stair_model.specs.Stripe.{IsSector, IsStripeOf, Stripe as Numbers};
 ghost use Rattle.stair_rack.specs.RackCounts.{RisesAtMost};
-ghost use Rattle.stair_rack.specs.Telling.{IsLater};
+ghost use Rattle.stair_rack.specs.RackState.{IsLater};
 ghost use Rattle.stair_rack.specs.Told.{told};
 ghost use Rattle.stair_journal.specs.Redo.{IsRedo};
 ghost use Rattle.stair_state.specs.Blocks.{AreOfOneStripe};
-ghost use Rattle.stair_session.specs.Courses.{point};
+ghost use Rattle.stair_invariant.specs.Effects.{snapshot};
 ghost use Rattle.stair_array.specs.Arrays.{LacksOne, cells_of, outcome};
 ghost use Rattle.stair_array.specs.Calls.{AreOfBlocks, AreSet, ChangesWith, Prepares, WritesBlocks};
 ghost use Rattle.stair_array.specs.Promise.{Keeps};
 ghost use Rattle.stair_array.specs.WritingSteps.{Readies};
 
 use crate::fault::ArrayFault;
-use crate::session::Session;
+use crate::session::ArrayCore;
 use stair_base::{CellSet, Geometry, SECTOR, Slots, Stripe, StripeCode};
 use stair_gf::Steps;
 use stair_journal::Redo;
@@ -25,7 +25,7 @@ use stair_stripes::gather_cells;
 use std::marker::Brand;
 use std::sync::ledger::{Blank, Ledger};
 
-impl Session {
+impl ArrayCore {
     // Writes blocks of one stripe: the cells that change are made ready in memory, and a redo of them is run.
     pub(crate) fn write<R: Rack, C: StripeCode>(
         &mut self,
@@ -39,9 +39,9 @@ impl Session {
         requires thawed { self.old.member.array.frozen ≡ false }
         requires sectors { All IsSector from.now }
         requires together { AreOfOneStripe self.old.member.array.geometry first (length from.now) }
-        ensures told { WritesBlocks first from.now (outcome result)
-            (point self.old.member (told R.Rack rack.old))
-            (point self.new.member (told R.Rack rack.new)) }
+        ensures does { WritesBlocks first from.now (outcome result)
+            (snapshot self.old.member (told R.Rack rack.old))
+            (snapshot self.new.member (told R.Rack rack.new)) }
         ensures fits { C.shape code.new ≡ self.new.member.array.geometry }
         ensures geometry { self.new.member.array.geometry ≡ self.old.member.array.geometry }
         ensures kept { self.old.stopped ≡ None → Keeps (outcome result) self.new.stopped }
@@ -51,7 +51,7 @@ impl Session {
             AreOfBlocks self.old.member.array.geometry first (length from.now) cells →
             RisesAtMost (cell_count cells) (R.reads rack.old) (R.reads rack.new) ⊎
             LacksOne (first / data_cells self.old.member.array.geometry) cells
-            (point self.old.member (told R.Rack rack.old)) (told R.Rack rack.new) }
+            (snapshot self.old.member (told R.Rack rack.old)) (told R.Rack rack.new) }
         ensures reads { RisesAtMost (2 * cells_of self.old.member.array.geometry)
             (R.reads rack.old) (R.reads rack.new) }
     {
@@ -76,9 +76,9 @@ impl Session {
         requires stripe { redo.now.stripe ≡ first / data_cells self.old.member.array.geometry }
         requires change { AreOfBlocks self.old.member.array.geometry first (length from.now)
             redo.now.cells }
-        ensures told { Readies redo.now first from.now self.new.stripe (outcome result)
-            (point self.old.member (told R.Rack rack.old))
-            (point self.new.member (told R.Rack rack.new)) }
+        ensures does { Readies redo.now first from.now self.new.stripe (outcome result)
+            (snapshot self.old.member (told R.Rack rack.old))
+            (snapshot self.new.member (told R.Rack rack.new)) }
         ensures later { IsLater (told R.Rack rack.old) (told R.Rack rack.new) }
         ensures fits { C.shape code.new ≡ self.new.member.array.geometry }
         ensures geometry { self.new.member.array.geometry ≡ self.old.member.array.geometry }
@@ -87,7 +87,7 @@ impl Session {
             R.reads rack.new ≡ R.reads rack.old }
         ensures once { RisesAtMost (cell_count redo.now.cells) (R.reads rack.old) (R.reads rack.new)
             ⊎ LacksOne redo.now.stripe redo.now.cells
-            (point self.old.member (told R.Rack rack.old)) (told R.Rack rack.new) }
+            (snapshot self.old.member (told R.Rack rack.old)) (told R.Rack rack.new) }
         ensures reads { RisesAtMost (2 * cells_of self.old.member.array.geometry)
             (R.reads rack.old) (R.reads rack.new) }
     {
@@ -125,17 +125,17 @@ impl Session {
     ) -> Result<(), ArrayFault>
         requires fits { C.shape code.old ≡ self.old.member.array.geometry }
         requires redo { IsRedo self.old.member.array.geometry redo.now }
-        ensures told { (count : ℕ) → count < data_cells self.old.member.array.geometry →
+        ensures does { (count : ℕ) → count < data_cells self.old.member.array.geometry →
             Prepares redo.now.stripe count redo.now.cells self.new.stripe (outcome result)
-            (point self.old.member (told R.Rack rack.old))
-            (point self.new.member (told R.Rack rack.new)) }
+            (snapshot self.old.member (told R.Rack rack.old))
+            (snapshot self.new.member (told R.Rack rack.new)) }
         ensures later { IsLater (told R.Rack rack.old) (told R.Rack rack.new) }
         ensures fits { C.shape code.new ≡ self.new.member.array.geometry }
         ensures geometry { self.new.member.array.geometry ≡ self.old.member.array.geometry }
         ensures kept { self.old.stopped ≡ None → Keeps (outcome result) self.new.stopped }
         ensures once { RisesAtMost (cell_count redo.now.cells) (R.reads rack.old) (R.reads rack.new)
             ⊎ LacksOne redo.now.stripe redo.now.cells
-            (point self.old.member (told R.Rack rack.old)) (told R.Rack rack.new) }
+            (snapshot self.old.member (told R.Rack rack.old)) (told R.Rack rack.new) }
         ensures reads { RisesAtMost (2 * cells_of self.old.member.array.geometry)
             (R.reads rack.old) (R.reads rack.new) }
     {
@@ -152,7 +152,7 @@ impl Session {
             &redo.cells,
             &mut self.stripe,
         );
-        self.leave_out(rack, gathered.gone)?;
+        self.fence_if_any(rack, gathered.gone)?;
         if gathered.erased.count() == 0 {
             return Ok(());
         }

@@ -5,7 +5,7 @@ use crate::fault::Fault;
 use crate::varied::varied;
 use stair_base::{SECTOR, Slots};
 use stair_filerack::{Access, FileRack, Lock};
-use stair_image::{SECTOR_BYTES, seal};
+use stair_image::{SEALED_SECTOR, seal};
 use stair_rack::{Got, Rack, Reply, sync_all, write_all};
 use stair_tags::seal_all;
 use std::alloc::{AllocError, Global};
@@ -17,7 +17,7 @@ const SECTORS: u16 = 64;
 /// Seals sectors that vary under their numbers, so many times, and gives a check of them.
 pub(crate) fn check_of_sealing(alloc: Global, rounds: u32) -> Result<u64, AllocError> {
     let sectors = varied_sectors(alloc)?;
-    let mut sealed = vec![in alloc; [0; SECTOR_BYTES]; usize::from(SECTORS)]?;
+    let mut sealed = vec![in alloc; [0; SEALED_SECTOR]; usize::from(SECTORS)]?;
     for _round in 0..rounds {
         let mut number = 0;
         for (into, sector) in sealed.iter_mut().zip(&sectors) {
@@ -31,7 +31,7 @@ pub(crate) fn check_of_sealing(alloc: Global, rounds: u32) -> Result<u64, AllocE
 /// Does the same eight at a time.
 pub(crate) fn check_of_sealing_by_eight(alloc: Global, rounds: u32) -> Result<u64, AllocError> {
     let sectors = varied_sectors(alloc)?;
-    let mut sealed = vec![in alloc; [0; SECTOR_BYTES]; usize::from(SECTORS)]?;
+    let mut sealed = vec![in alloc; [0; SEALED_SECTOR]; usize::from(SECTORS)]?;
     for _round in 0..rounds {
         let mut numbers = [0, 1, 2, 3, 4, 5, 6, 7];
         for (into, eight) in sealed

@@ -8,7 +8,7 @@ use Rattle.stair_rack.specs.History.{Happening, Write, slot_state}
 use Rattle.stair_rack.specs.Media.{Image}
 use Rattle.stair_rack.specs.Moments.{IsMoment}
 use Rattle.stair_rack.specs.Sector.{Cell, Good, Damaged, TornOverDamage}
-use Rattle.stair_rack.specs.Telling.{Telling}
+use Rattle.stair_rack.specs.RackState.{RackState}
 use Rattle.stair_rack.specs.declared.rack.Reply.TheVariants as reply
 use Rattle.stair_rack.proofs.MomentLemmas.{ran_before}
 use Rattle.stair_rack.proofs.StandingLemmas.{standing_on}
@@ -26,7 +26,7 @@ use Rattle.stair_member.specs.Membership.{IsHere, IsMembership, Membership, plac
 use Rattle.stair_member.specs.Reserve.{HasReached}
 use Rattle.stair_member.specs.RoundSteps.{BeganOut, DrewOut}
 use Rattle.stair_member.specs.Superblocks.{Counts, HoldsSuper}
-use Rattle.stair_member.specs.declared.aim.Aim.{Aim}
+use Rattle.stair_member.specs.declared.aim.EpochChange.{EpochChange}
 use Rattle.stair_member.proofs.AgainLemmas.{each_stood}
 use Rattle.stair_member.proofs.ChangeLemmas.{up_here}
 use Rattle.stair_member.proofs.EditionLemmas.{holds_copy}
@@ -60,20 +60,20 @@ reached array image j has copy =
     let older : copy.super.draw < array.epoch = copy.behind.older in
     omega arith
 
-pub meanwhile : (aim : Aim) (gone : Slots) (m last : Membership) (old h new : List Happening) (image : Image) (j : ℕ)
+pub meanwhile : (aim : EpochChange) (gone : Slots) (m last : Membership) (old h new : List Happening) (image : Image) (j : ℕ)
     → IsFencing aim gone m last old h new → CrashMayLeave h image → admitted aim ≢ Some j
     → HasReached m.array.geometry (image_now old) m.array.epoch j → ¬ IsOlderCopy m.array j ((image j).cell)
 meanwhile aim gone m last old h new image j fencing left other has =
     reached m.array image j (each_reached aim gone m last old h new image j m.array.epoch fencing left (omega arith) other has)
 
-pub stood : (aim : Aim) (gone : Slots) (m last : Membership) (old new : List Happening) (image : Image) (j : ℕ)
+pub stood : (aim : EpochChange) (gone : Slots) (m last : Membership) (old new : List Happening) (image : Image) (j : ℕ)
     → HasStood aim gone m last old new → CrashMayLeave new image → IsHere last j → ¬ IsOlderCopy last.array j ((image j).cell)
 stood aim gone m last old new image j has left here =
     reached last.array image j (each_stood aim gone m last old new image j has left here)
 
 -- ---- after the draws
 
-module _ (aim : Aim) (m mid last : Membership) (which : Option ℕ) (old between new : Telling) (h : List Happening) (image : Image) (j : ℕ)
+module _ (aim : EpochChange) (m mid last : Membership) (which : Option ℕ) (old between new : RackState) (h : List Happening) (image : Image) (j : ℕ)
     (drew : DrewOut m mid None old between) (began : BeganOut aim mid last which between new) (honest : IsTrue between.honest)
     (honest_new : IsTrue new.honest) (at : IsMoment between.history h new.history)
     (same : (slot_state h j).pulls ≡ (slot_state old.history j).pulls) (left : CrashMayLeave h image) (live : IsLiveSlot m j)

@@ -27,7 +27,7 @@ pub struct Copies {
 /// The superblock places are read again after the survey. So a command that establishes an epoch meanwhile makes no device an
 /// older copy.
 pub fn find_copies<R: Rack>(rack: &mut R) -> Option<Copies>
-    ensures told { AreFound result (told R.Rack rack.old) (told R.Rack rack.new) }
+    ensures does { AreFound result (told R.Rack rack.old) (told R.Rack rack.new) }
 {
     let member = match survey(rack) {
         Ok(member) => member,

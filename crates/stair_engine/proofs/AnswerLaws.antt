@@ -17,9 +17,9 @@ use Rattle.stair_model.specs.Restoring.{IsRestored, SameHeld}
 use Rattle.stair_conf.specs.declared.job.Method.{Method}
 use Rattle.stair_status.specs.declared.status.Status.TheVariants.{Done, NoCodeword, Lost}
 use Rattle.stair_conf.specs.declared.job.StripeCommand.TheVariants.{Encode, Restore}
-use Rattle.stair_story.specs.Answer.{HasBytes, Judges, cell_bytes, map_bytes}
-use Rattle.stair_story.specs.Encode.{IsCostOfMethod, TakesSteps}
-use Rattle.stair_story.specs.Restore.{CountsErased, IsErasedBy}
+use Rattle.stair_command.specs.Answer.{HasBytes, Judges, cell_bytes, map_bytes}
+use Rattle.stair_command.specs.Encode.{IsCostOfMethod, TakesSteps}
+use Rattle.stair_command.specs.Restore.{CountsErased, IsErasedBy}
 use Rattle.stair_engine.specs.Taking.{HoldsInput, IsMapAndCells}
 use Rattle.stair_engine.proofs.BlockLaws.{IsEncodingOf-held}
 use Rattle.stair_engine.proofs.CellLaws.{length-cell_bytes}

@@ -10,13 +10,13 @@ use Rattle.stair_model.specs.Geometry.{Geometry, IsWithinLimits, data_cells}
 use Rattle.stair_model.specs.Stripe.{Stripe, IsSector, IsStripeOf, IsWellFormed, cell, with_cell}
 use Rattle.stair_model.proofs.DataLaws.{data_in_range, data_once}
 use Rattle.stair_model.proofs.StripeLaws.{cell-IsSector, cell-with_cell_other, cell-with_cell_same}
-use Rattle.stair_story.specs.Encode.{HoldsBlocks}
-use Rattle.stair_story.specs.Outside.{SourceView}
-use Rattle.stair_story.specs.Taking.{TakesBytes}
+use Rattle.stair_command.specs.Encode.{HoldsBlocks}
+use Rattle.stair_command.specs.Outside.{SourceView}
+use Rattle.stair_command.specs.Taking.{TakesBytes}
 use Rattle.stair_engine.specs.Taking.{HoldsInput, TakesBlocksTo}
-use Rattle.stair_story.specs.declared.intake.Intake.{Intake}
+use Rattle.stair_command.specs.declared.intake.Intake.{Intake}
 use Rattle.stair_engine.proofs.CellLaws.{concat-push, length-concat}
-use Rattle.stair_story.proofs.IntakeLaws.{TakesBytes-none, TakesBytes-more}
+use Rattle.stair_command.proofs.IntakeLaws.{TakesBytes-none, TakesBytes-more}
 
 pub TakesBlocksTo-none : {S : Type 0} (view : SourceView S) (g : Geometry) (intake : Intake) (stripe : Stripe) (a : S)
     → TakesBlocksTo view g 0 intake intake stripe a a

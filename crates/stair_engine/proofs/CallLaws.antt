@@ -17,17 +17,17 @@ use Rattle.stair_conf.specs.declared.fault.ConfigFault.{ConfigFault}
 use Rattle.stair_conf.proofs.WordsLemmas.{spells_once}
 use Rattle.stair_conf.specs.declared.job.Job.{Job}
 use Rattle.stair_conf.specs.declared.job.Job.TheVariants.{OneStripe, Create, Plan, Report, Show}
-use Rattle.stair_story.specs.Action.{status_of_create}
-use Rattle.stair_story.specs.Action as action
-use Rattle.stair_story.specs.Story.{Did}
+use Rattle.stair_command.specs.Action.{status_of_create}
+use Rattle.stair_command.specs.Action as action
+use Rattle.stair_command.specs.Trace.{Did}
 use Rattle.stair_engine.specs.Cause.{IfRefusedAtOnce}
-use Rattle.stair_story.specs.Fault.{status_of_config}
+use Rattle.stair_command.specs.Fault.{status_of_config}
 use Rattle.stair_engine.specs.Laws.{AllIsKept, ArrayIsLeft, ArrayIsMade, ArraysAreSpared, MemoryComesFirst, RackIsLeft, ShowOnlyLooks, SourceIsLeft, UsageIsExact}
 use Rattle.stair_engine.specs.Create.{IsOnceMade, MakesArray, SparesArrays}
-use Rattle.stair_story.specs.Outside.{Outside, Views, outside}
-use Rattle.stair_engine.specs.Plans.{costs_plan, create_plan, job_plan, making_plan, plan_of, show_plan, within_limits}
-use Rattle.stair_story.specs.Plan.{Over}
-use Rattle.stair_story.specs.Rack.{MeansOver, RackView, Works, told_of}
+use Rattle.stair_command.specs.Outside.{Outside, Views, outside}
+use Rattle.stair_engine.specs.Programs.{costs_program, create_program, job_program, making_program, program_of, show_program, within_limits}
+use Rattle.stair_command.specs.Program.{Over}
+use Rattle.stair_command.specs.Rack.{ExecutesOver, RackView, Works, told_of}
 use Rattle.stair_engine.specs.Task.{one_stripe}
 use Rattle.stair_status.specs.declared.status.Status.{Status}
 use Rattle.stair_status.specs.declared.status.Status.TheVariants.{Done, Usage, InputFault, OutputFault, OutOfMemory}
@@ -35,14 +35,14 @@ use Rattle.stair_engine.proofs.JobLaws.{config_own, create_own, job_looks, job_o
 use Rattle.stair_engine.proofs.OpenLaws.{IsOfJob}
 use Rattle.stair_engine.proofs.ReportLaws.{report_so}
 use Rattle.stair_engine.specs.Jobs.{MakesCalls, MayWrite, NotSpelled, OpensArray}
-use Rattle.stair_story.specs.Devices.{DeviceView, MeansWhole}
-use Rattle.stair_story.proofs.DeviceLaws.{over_rack}
+use Rattle.stair_command.specs.Devices.{DeviceView, ExecutesWhole}
+use Rattle.stair_command.proofs.DeviceLaws.{over_rack}
 use Rattle.stair_engine.proofs.MeaningLaws.{tested_all}
 use Rattle.stair_engine.proofs.StandLaws.{looked_stands, still_stands}
 use Rattle.stair_engine.proofs.WordLaws.{over_spelled, over_words, words_all}
-use Rattle.stair_story.proofs.AllEnds.{AllEnd, Nowhere, ends_all, means_all}
-use Rattle.stair_story.proofs.EndingLaws.{none_taken, short_first, weaker}
-use Rattle.stair_story.proofs.LookLaws.{looks_all, short_unwritten}
+use Rattle.stair_command.proofs.AllEnds.{AllEnd, Nowhere, ends_all, means_all}
+use Rattle.stair_command.proofs.EndingLaws.{none_taken, short_first, weaker}
+use Rattle.stair_command.proofs.LookLaws.{looks_all, short_unwritten}
 
 -- ---- how `create` ends where it made nothing
 
@@ -78,21 +78,21 @@ other_than words spelled end not memory = ((λ is. absurd (not is), λ none. abs
 
 module _ {S K : Type 0} (view : Views S K) where
   exact_all : (words : List (List ℕ)) (job : Job) (a : Outside S K) → IsSpelled words
-      → AllEnd Nowhere view (λ end o z. IsExact words end) (job_plan job) a tt
+      → AllEnd Nowhere view (λ end o z. IsExact words end) (job_program job) a tt
   exact_all words job a spelled =
       ends_all Nowhere view (IsExact words) (other_than words spelled InputFault (λ is. cc)) (other_than words spelled OutputFault (λ is. cc))
-      (λ memory. absurd (memory refl)) (job_plan job) a tt
-      (weaker IsOfJob (IsExact words) (λ end is. other_than words spelled end is.1) (job_plan job) (job_own job))
+      (λ memory. absurd (memory refl)) (job_program job) a tt
+      (weaker IsOfJob (IsExact words) (λ end is. other_than words spelled end is.1) (job_program job) (job_own job))
 
 module _ {R S K : Type 0} (rack : RackView R) (view : Views S K) (a : Outside S K) (x : R) where
   -- no call was made, and what was refused at once left all
   abbrev Left : Status → Outside S K → R → Type 0
   Left end o z = (z ≡ x) × IfRefusedAtOnce end (o ≡ a)
 
-  left_all : (job : Job) → ¬ MakesCalls job → AllEnd (Works rack) view Left (job_plan job) a x
+  left_all : (job : Job) → ¬ MakesCalls job → AllEnd (Works rack) view Left (job_program job) a x
   left_all (OneStripe command n m r e) other =
       tested_all (Works rack) view (one_stripe n m r e) a x Left command (λ end o does refused. (refl, refused))
-  left_all Report other = report_so (λ plan. (o : Outside S K) → AllEnd (Works rack) view Left plan o x) (record {
+  left_all Report other = report_so (λ program. (o : Outside S K) → AllEnd (Works rack) view Left program o x) (record {
     long = λ o. (refl, tt);
     bad = λ number o. (refl, tt);
     over = λ events o. (λ s holds. (refl, tt), λ part s is holds. (refl, tt));
@@ -106,7 +106,7 @@ module _ {R S K : Type 0} (rack : RackView R) (view : Views S K) (a : Outside S 
   left_all (Plan n m r e) other = λ reply k is same. costs_left (one_stripe n m r e) reply k same
     where
       costs_left : (g : Geometry) (reply : Option ℕ) (k : ℕ) → k ≡ a.counter
-          → AllEnd (Works rack) view Left (within_limits (costs_plan g) reply) (outside a.source a.sink k) x
+          → AllEnd (Works rack) view Left (within_limits (costs_program g) reply) (outside a.source a.sink k) x
       costs_left g None k same = (
         λ costs n is again. (λ sink holds. (refl, tt), λ part sink is holds. (refl, tt)),
         (refl, ap (λ (c : ℕ). outside a.source a.sink c) same),
@@ -118,7 +118,7 @@ module _ {R S K : Type 0} (rack : RackView R) (view : Views S K) (a : Outside S 
   abbrev Untaken : Status → Outside S K → R → Type 0
   Untaken end o z = (end ≢ InputFault) × (o.source ≡ a.source) × (o.counter ≡ a.counter)
 
-  untaken_all : AllEnd (Works rack) view Untaken show_plan a x
+  untaken_all : AllEnd (Works rack) view Untaken show_program a x
   untaken_all = (
     λ member z did. (λ sink holds. ((λ is. cc), refl, refl), λ part sink is holds. ((λ is. cc), refl, refl)),
     λ fault z did. ((survey_own fault).0.0.0, refl, refl),
@@ -146,7 +146,7 @@ module _ {R S K : Type 0} (rack : RackView R) (view : Views S K) (a : Outside S 
         }
 
     making_owes : (text : List ℕ) (reply : Result Geometry ConfigFault) (o : Outside S K) → IfSome (view.source.left a.source) (λ all. text ≡ all)
-        → TextReadsAs text reply → AllEnd (Works rack) view (λ end p z. Owes end z) (making_plan reply) o x
+        → TextReadsAs text reply → AllEnd (Works rack) view (λ end p z. Owes end z) (making_program reply) o x
     making_owes text (Ok g) o told reads = (
       (
         λ done z did.
@@ -164,7 +164,7 @@ module _ {R S K : Type 0} (rack : RackView R) (view : Views S K) (a : Outside S 
     )
     making_owes text (Err fault) o told reads = not_begun (status_of_config fault) (config_never fault)
 
-    create_owes : AllEnd (Works rack) view (λ end o z. Owes end z) create_plan a x
+    create_owes : AllEnd (Works rack) view (λ end o z. Owes end z) create_program a x
     create_owes = (
       λ bytes source long gives. not_begun _ (never (λ is. cc) (λ is. cc)),
       λ text source few gives. (
@@ -181,7 +181,7 @@ all_is_kept S K view words status a b means = (words_tell view words status a b 
 
 pub usage_is_exact : (S K : Type 0) → UsageIsExact S K
 usage_is_exact S K view words status a b means =
-    means_all view (λ end o z. IsExact words end) (plan_of words) status a b means
+    means_all view (λ end o z. IsExact words end) (program_of words) status a b means
     (words_all Nowhere view (λ end o z. IsExact words end) words a tt (λ memory. absurd (memory refl))
     (λ not memory. ((λ is. not, λ none. refl), λ other. absurd (other refl))) (λ job spells. exact_all view words job a (job, spells)))
 
@@ -191,13 +191,13 @@ only IsSo words of spells not job also so = not (subst IsSo (spells_once words j
 
 module _ {R W S K : Type 0} (devices : DeviceView R W) (view : Views S K) where
   pub stepless : (words : List (List ℕ)) (status : Status) (a b : Outside S K) (x y : R) (watchers left : List W)
-      → MeansWhole devices view (plan_of words) (Over status) a b x y watchers left → NotSpelled OpensArray words
-      → MeansOver devices.rack view (plan_of words) (Over status) a b x y
+      → ExecutesWhole devices view (program_of words) (Over status) a b x y watchers left → NotSpelled OpensArray words
+      → ExecutesOver devices.rack view (program_of words) (Over status) a b x y
   stepless words status a b x y watchers left whole other =
-      over_rack devices view (plan_of words) (Over status) a b _ _ (words_no_step words other) whole.with
+      over_rack devices view (program_of words) (Over status) a b _ _ (words_no_step words other) whole.with
 
 module _ {R S K : Type 0} (rack : RackView R) (view : Views S K) where
-  left_over : (words : List (List ℕ)) (status : Status) (a b : Outside S K) (x y : R) → MeansOver rack view (plan_of words) (Over status) a b x y
+  left_over : (words : List (List ℕ)) (status : Status) (a b : Outside S K) (x y : R) → ExecutesOver rack view (program_of words) (Over status) a b x y
       → NotSpelled MakesCalls words → (y ≡ x) × IfRefusedAtOnce status (b ≡ a)
   left_over words status a b x y over other =
       over_words rack view (Left rack view a x) words status a b x y over (refl, refl) (λ not. (refl, refl))
@@ -205,14 +205,14 @@ module _ {R S K : Type 0} (rack : RackView R) (view : Views S K) where
 
   -- what writes nothing only looks
   no_sector_changed : (words : List (List ℕ)) (status : Status) (a b : Outside S K) (x y : R)
-      → MeansOver rack view (plan_of words) (Over status) a b x y → NotSpelled MayWrite words → IsTrue rack.honest
+      → ExecutesOver rack view (program_of words) (Over status) a b x y → NotSpelled MayWrite words → IsTrue rack.honest
       → Ran LeavesSectors (rack.history x) (rack.history y)
   no_sector_changed words status a b x y over other honest =
       over_words rack view (λ end o z. Ran LeavesSectors (rack.history x) (rack.history z)) words status a b x y over (ran_none (rack.history x))
       (λ not. ran_none (rack.history x))
-      (λ job spells. looks_all rack view honest x (job_plan job) a x (job_looks job (other job spells)) (ran_none (rack.history x)))
+      (λ job spells. looks_all rack view honest x (job_program job) a x (job_looks job (other job spells)) (ran_none (rack.history x)))
 
-  looked_over : (words : List (List ℕ)) (status : Status) (a b : Outside S K) (x y : R) → MeansOver rack view (plan_of words) (Over status) a b x y
+  looked_over : (words : List (List ℕ)) (status : Status) (a b : Outside S K) (x y : R) → ExecutesOver rack view (program_of words) (Over status) a b x y
       → Spells words Show → (status ≢ InputFault) × (b.source ≡ a.source) × (b.counter ≡ a.counter)
       × (IsTrue rack.honest → Ran LeavesSectors (rack.history x) (rack.history y))
   looked_over words status a b x y over spells =
@@ -220,7 +220,7 @@ module _ {R S K : Type 0} (rack : RackView R) (view : Views S K) where
       (untaken_all rack view a x) in
       (untaken.0, untaken.1, untaken.2, no_sector_changed words status a b x y over (only MayWrite words Show spells (λ no. no)))
 
-  created : (words : List (List ℕ)) (status : Status) (a b : Outside S K) (x y : R) → MeansOver rack view (plan_of words) (Over status) a b x y
+  created : (words : List (List ℕ)) (status : Status) (a b : Outside S K) (x y : R) → ExecutesOver rack view (program_of words) (Over status) a b x y
       → Spells words Create → IsTrue rack.honest → Owes rack view a x status y
   created words status a b x y over spells honest =
       over_spelled rack view (λ end o z. Owes rack view a x end z) words status a b x y over Create spells
@@ -254,7 +254,7 @@ show_only_looks R W S K devices view words status a b x y watchers left whole sp
 
 pub source_is_left : (S K : Type 0) → SourceIsLeft S K
 source_is_left S K view words status a b other means =
-    none_taken view.source means.story (plan_of words) status a.source b.source (words_untaken words other) means.follows means.bears.gives
+    none_taken view.source means.trace (program_of words) status a.source b.source (words_untaken words other) means.follows means.bears.gives
 
 pub array_is_left : (R W S K : Type 0) → ArrayIsLeft R W S K
 array_is_left R W S K devices view words status a b x y watchers left whole other honest =
@@ -265,15 +265,15 @@ array_is_left R W S K devices view words status a b x y watchers left whole othe
 
 pub memory_comes_first : (R W S K : Type 0) → MemoryComesFirst R W S K
 memory_comes_first R W S K devices view words a b x y watchers left whole = (
-  λ honest. short_unwritten devices honest whole.with.means.story (plan_of words) _ _ (words_unwritten words) whole.with.means.follows whole.with.works,
+  λ honest. short_unwritten devices honest whole.with.means.trace (program_of words) _ _ (words_unwritten words) whole.with.means.follows whole.with.works,
   λ other.
       let over = stepless devices view words OutOfMemory a b x y watchers left whole other in
-      short_first devices.rack over.means.story (plan_of words) x y (words_first words other) over.means.follows over.works,
+      short_first devices.rack over.means.trace (program_of words) x y (words_first words other) over.means.follows over.works,
 )
 
 -- what `create` made and spared
 owes_whole : {R W S K : Type 0} (devices : DeviceView R W) (view : Views S K) (words : List (List ℕ)) (status : Status) (a b : Outside S K) (x y : R)
-    (watchers left : List W) → MeansWhole devices view (plan_of words) (Over status) a b x y watchers left → Spells words Create
+    (watchers left : List W) → ExecutesWhole devices view (program_of words) (Over status) a b x y watchers left → Spells words Create
     → IsTrue devices.rack.honest → Owes devices.rack view a x status y
 owes_whole devices view words status a b x y watchers left whole spells honest =
     created devices.rack view words status a b x y

@@ -11,11 +11,11 @@ use Rattle.std.proofs.lemmas.List.Folds.{concat-append}
 use Rattle.stair_model.specs.Geometry.{Geometry, IsWithinLimits}
 use Rattle.stair_model.specs.Stripe.{Stripe, IsSector, IsStripeOf, IsWellFormed, with_cell}
 use Rattle.stair_model.proofs.StripeLaws.{number_in}
-use Rattle.stair_story.specs.declared.intake.Intake.{Intake}
-use Rattle.stair_story.specs.Outside.{SourceView}
-use Rattle.stair_story.specs.Story.{IsPart}
-use Rattle.stair_story.specs.Taking.{TakesBytes, intake_of}
-use Rattle.stair_story.proofs.IntakeLaws.{TakesBytes-none, TakesBytes-more}
+use Rattle.stair_command.specs.declared.intake.Intake.{Intake}
+use Rattle.stair_command.specs.Outside.{SourceView}
+use Rattle.stair_command.specs.Trace.{IsPart}
+use Rattle.stair_command.specs.Taking.{TakesBytes, intake_of}
+use Rattle.stair_command.proofs.IntakeLaws.{TakesBytes-none, TakesBytes-more}
 
 pub concat-push : (xs : List (List ℕ)) (x : List ℕ) → concat (xs ++ x ∷ []) ≡ concat xs ++ x
 concat-push [] x = append-nil x

@@ -5,21 +5,21 @@ use Rattle.stair_model.specs.Geometry.{IsWithinLimits, block_count}
 use Rattle.stair_rack.specs.History.{Happening}
 use Rattle.stair_state.specs.Blocks.{Blocks}
 use Rattle.stair_state.specs.State.{State}
-use Rattle.stair_session.specs.Returning.{Returning}
+use Rattle.stair_invariant.specs.Returning.{Returning}
 use Rattle.stair_conf.specs.Words.{Spells}
 use Rattle.stair_conf.specs.declared.job.Job.{Job}
 use Rattle.stair_conf.specs.declared.job.Job.TheVariants.{Volume}
 use Rattle.stair_conf.specs.declared.job.VolumeJob.{VolumeJob}
 use Rattle.stair_conf.specs.declared.job.VolumeJob.TheVariants as volume
 use Rattle.stair_conf.proofs.WordsLemmas.{spells_once}
-use Rattle.stair_story.specs.Devices.{devices as at}
-use Rattle.stair_story.specs.Plan.{Plan, Over, Ask}
-use Rattle.stair_story.specs.Question.{IsReply, Words}
-use Rattle.stair_story.specs.Run.{Now, Runs, history_of, now}
-use Rattle.stair_story.specs.Story.{Deed, Found, Grew, RanOut, Leads, Moves, put_in, taken_in}
+use Rattle.stair_command.specs.Devices.{devices as at}
+use Rattle.stair_command.specs.Program.{Program, Over, Ask}
+use Rattle.stair_command.specs.Question.{IsReply, Words}
+use Rattle.stair_command.specs.Run.{Now, Runs, history_of, now}
+use Rattle.stair_command.specs.Trace.{TraceItem, Found, Grew, RanOut, AlongTrace, StepsProgram, put_in, taken_in}
 use Rattle.stair_status.specs.declared.status.Status.{Status}
 use Rattle.stair_status.specs.declared.status.Status.TheVariants.{OutOfMemory}
-use Rattle.stair_story.proofs.LifeLaws.{kept_whole}
+use Rattle.stair_command.proofs.LifeLaws.{kept_whole}
 use Rattle.stair_volume.specs.Table.{Table}
 use Rattle.stair_volume.specs.Volumes.{HasVolumes, IsAmong, IsCommand, IsFinished, Volume as Held, volume_at}
 use Rattle.stair_volume.proofs.AgreeLaws.{read_alike}
@@ -27,60 +27,60 @@ use Rattle.stair_volume.proofs.ReadingLaws.{one_table}
 use Rattle.stair_volume.proofs.OpenedLaws.{Reached, before_at, cut_goes, finished, goes_so, over_before, reached}
 use Rattle.stair_engine.specs.Changed.{HoldsVolume}
 use Rattle.stair_engine.specs.Laws.{VolumesAreChanged, VolumesAreReadAlike}
-use Rattle.stair_engine.specs.Plans.{if_spelled, job_plan, plan_of}
+use Rattle.stair_engine.specs.Programs.{if_spelled, job_program, program_of}
 use Rattle.stair_engine.proofs.VolumesLaws.{spelled_command}
 
 module _ (returning : Returning) (before : List Happening) (words : List (List ℕ)) (job : VolumeJob) (spells : Spells words (Volume job)) (is : IsCommand job)
     (s : State) (limits : IsWithinLimits s.geometry) where
-  abbrev At : List ℕ → List ℕ → Plan → Now → Type 0
+  abbrev At : List ℕ → List ℕ → Program → Now → Type 0
   At taken put rest new = Reached returning before job is s limits taken put rest new
 
   -- what the words spell is the job
-  reached_job : (reply : Option Job) → IsReply (Words words) reply → (story : List Deed) (rest : Plan) (h : List Happening) (new : Now)
-      → Leads Moves story (if_spelled reply) rest → Runs returning before story (now s h None) new → At (taken_in story) (put_in story) rest new
-  reached_job None not story rest h new follows runs = absurd (not (Volume job, spells))
-  reached_job (Some of) read story rest h new follows runs =
-      reached returning before job is s limits story rest h new
-      (subst (λ (j : Job). Leads Moves story (job_plan j) rest) (sym (spells_once words (Volume job) of spells read)) follows) runs
+  reached_job : (reply : Option Job) → IsReply (Words words) reply → (trace : List TraceItem) (rest : Program) (h : List Happening) (new : Now)
+      → AlongTrace StepsProgram trace (if_spelled reply) rest → Runs returning before trace (now s h None) new → At (taken_in trace) (put_in trace) rest new
+  reached_job None not trace rest h new follows runs = absurd (not (Volume job, spells))
+  reached_job (Some of) read trace rest h new follows runs =
+      reached returning before job is s limits trace rest h new
+      (subst (λ (j : Job). AlongTrace StepsProgram trace (job_program j) rest) (sym (spells_once words (Volume job) of spells read)) follows) runs
 
   -- the words are read
-  reached_read : (story : List Deed) (rest : Plan) (h : List Happening) (new : Now) → Leads Moves story (Ask (Words words) if_spelled) rest
-      → Runs returning before story (now s h None) new → At (taken_in story) (put_in story) rest new
+  reached_read : (trace : List TraceItem) (rest : Program) (h : List Happening) (new : Now) → AlongTrace StepsProgram trace (Ask (Words words) if_spelled) rest
+      → Runs returning before trace (now s h None) new → At (taken_in trace) (put_in trace) rest new
   reached_read [] rest h new follows runs =
       before_at returning before job is s limits [] [] (Ask (Words words) if_spelled) rest new follows (λ step next. absurd next) (λ done. cc)
       (kept_whole (ap (λ (n : Now). n.state) runs))
-  reached_read (Found asked ∷ story) rest h new follows runs =
-      reached_job follows.1.0 follows.1.2 story rest h new (subst (λ (p : Plan). Leads Moves story p rest) follows.1.3 follows.2)
-      (subst (λ (n : Now). Runs returning before story n new) runs.1 runs.2)
-  reached_read (_ ∷ story) rest h new follows runs = absurd follows.1
+  reached_read (Found asked ∷ trace) rest h new follows runs =
+      reached_job follows.1.0 follows.1.2 trace rest h new (subst (λ (p : Program). AlongTrace StepsProgram trace p rest) follows.1.3 follows.2)
+      (subst (λ (n : Now). Runs returning before trace n new) runs.1 runs.2)
+  reached_read (_ ∷ trace) rest h new follows runs = absurd follows.1
 
   -- the whole call
-  pub reached_words : (story : List Deed) (rest : Plan) (h : List Happening) (new : Now) → Leads Moves story (plan_of words) rest
-      → Runs returning before story (now s h None) new → At (taken_in story) (put_in story) rest new
+  pub reached_words : (trace : List TraceItem) (rest : Program) (h : List Happening) (new : Now) → AlongTrace StepsProgram trace (program_of words) rest
+      → Runs returning before trace (now s h None) new → At (taken_in trace) (put_in trace) rest new
   reached_words [] rest h new follows runs =
-      before_at returning before job is s limits [] [] (plan_of words) rest new follows (λ step next. absurd next) (λ done. cc)
+      before_at returning before job is s limits [] [] (program_of words) rest new follows (λ step next. absurd next) (λ done. cc)
       (kept_whole (ap (λ (n : Now). n.state) runs))
-  reached_words (Grew ∷ story) rest h new follows runs =
-      reached_read story rest h new (subst (λ (p : Plan). Leads Moves story p rest) follows.1 follows.2)
-      (subst (λ (n : Now). Runs returning before story n new) runs.1 runs.2)
-  reached_words (RanOut ∷ story) rest h new follows runs =
-      over_before returning before job is s limits story (taken_in story) (put_in story) OutOfMemory rest runs.0 new (λ done. cc)
-      (kept_whole (ap (λ (n : Now). n.state) runs.1)) (subst (λ (p : Plan). Leads Moves story p rest) follows.1 follows.2) runs.2
-  reached_words (_ ∷ story) rest h new follows runs = absurd follows.1
+  reached_words (Grew ∷ trace) rest h new follows runs =
+      reached_read trace rest h new (subst (λ (p : Program). AlongTrace StepsProgram trace p rest) follows.1 follows.2)
+      (subst (λ (n : Now). Runs returning before trace n new) runs.1 runs.2)
+  reached_words (RanOut ∷ trace) rest h new follows runs =
+      over_before returning before job is s limits trace (taken_in trace) (put_in trace) OutOfMemory rest runs.0 new (λ done. cc)
+      (kept_whole (ap (λ (n : Now). n.state) runs.1)) (subst (λ (p : Program). AlongTrace StepsProgram trace p rest) follows.1 follows.2) runs.2
+  reached_words (_ ∷ trace) rest h new follows runs = absurd follows.1
 
 -- so of every call
 pub volumes_are_changed : (R W S K : Type 0) → VolumesAreChanged R W S K
 volumes_are_changed R W S K devices view words job status a b x y watchers left spells whole returning s limits = (
   λ run.
-      let story = whole.with.means.story in
+      let trace = whole.with.means.trace in
       let new : Now = now run.state (history_of devices (at y whole.session left)) run.stopped in
       let came =
-      reached_words returning (devices.rack.history x) words job spells is_one s limits story (Over status) (devices.rack.history x) new
+      reached_words returning (devices.rack.history x) words job spells is_one s limits trace (Over status) (devices.rack.history x) new
       whole.with.means.follows run.runs in (
-        goes_so returning (devices.rack.history x) job is_one s limits story (Over status) new came,
+        goes_so returning (devices.rack.history x) job is_one s limits trace (Over status) new came,
         λ done.
-            finished returning (devices.rack.history x) job is_one s limits story new
-            (subst (λ (end : Status). Reached returning (devices.rack.history x) job is_one s limits (taken_in story) (put_in story) (Over end) new) done came),
+            finished returning (devices.rack.history x) job is_one s limits trace new
+            (subst (λ (end : Status). Reached returning (devices.rack.history x) job is_one s limits (taken_in trace) (put_in trace) (Over end) new) done came),
       ),
   λ c safe image left.
       let came =
@@ -128,7 +128,7 @@ module _ (name : List ℕ) (block count : ℕ) (taken put : List ℕ) (s new : S
 
 pub volumes_are_read_alike : (R W S K : Type 0) → VolumesAreReadAlike R W S K
 volumes_are_read_alike R W S K devices view words name block count status a b x y watchers left spells whole returning s limits run done =
-    let story = whole.with.means.story in
+    let trace = whole.with.means.trace in
     let finished =
     ((volumes_are_changed R W S K devices view words (volume.Read name block count) status a b x y watchers left spells whole returning s limits).0 run).1 done in
-    (finished.held, finished.settled, reads_volume name block count (taken_in story) (put_in story) s run.state finished)
+    (finished.held, finished.settled, reads_volume name block count (taken_in trace) (put_in trace) s run.state finished)

@@ -29,64 +29,64 @@ use Rattle.stair_conf.specs.declared.job.StripeCommand.TheVariants.{Check, Encod
 use Rattle.stair_conf.specs.Words.{Spells}
 use Rattle.stair_conf.proofs.ConfigLaws.{one_answer}
 use Rattle.stair_conf.proofs.WordsLemmas.{spells_once}
-use Rattle.stair_story.specs.Answer.{HasBytes, Judges}
+use Rattle.stair_command.specs.Answer.{HasBytes, Judges}
 use Rattle.stair_engine.specs.Cause.{HasCause}
 use Rattle.stair_engine.specs.Complete.{CanBeDone, IsComplete, IsThawed, IsValidInput, IsFinished, IsScriptOf}
-use Rattle.stair_engine.specs.Laws.{AllIsComplete, AllIsCompleteWherever, ReplacementIsDone, ScriptIsDone}
+use Rattle.stair_engine.specs.Laws.{AllIsComplete, AllIsCompleteWithReinsertion, ReplacementIsDone, ScriptIsDone}
 use Rattle.stair_engine.specs.Stands.{StandsThroughout}
-use Rattle.stair_session.specs.Returning.{NoneReturns, Returning}
-use Rattle.stair_story.specs.Outside.{Outside, Views, outside}
-use Rattle.stair_engine.specs.Plans.{create_plan, if_spelled, job_plan, making_plan, plan_of}
-use Rattle.stair_engine.specs.Scripts.{run_plan, guard_plan}
+use Rattle.stair_invariant.specs.Returning.{NoneReturns, Returning}
+use Rattle.stair_command.specs.Outside.{Outside, Views, outside}
+use Rattle.stair_engine.specs.Programs.{create_program, if_spelled, job_program, making_program, program_of}
+use Rattle.stair_engine.specs.Scripts.{run_program, guard_program}
 use Rattle.stair_engine.specs.Show.{show_text}
-use Rattle.stair_story.specs.Rack.{MeansOver, RackView, Works, told_of}
-use Rattle.stair_story.specs.Restore.{HoldsCells, IsErasedBy}
+use Rattle.stair_command.specs.Rack.{ExecutesOver, RackView, Works, told_of}
+use Rattle.stair_command.specs.Restore.{HoldsCells, IsErasedBy}
 use Rattle.stair_engine.specs.Task.{one_stripe}
 use Rattle.stair_status.specs.declared.status.Status.{Status}
 use Rattle.stair_status.specs.declared.status.Status.TheVariants.{Done, NotCodeword, NoCodeword, Limit, Input, InputFault, OutputFault, Lost, OutOfMemory}
 use Rattle.stair_engine.proofs.MeaningLaws.{told_more, words_are_done}
-use Rattle.stair_engine.specs.Blocks.{IsInRange, if_in_range, read_plan, within_range, write_plan}
-use Rattle.stair_story.specs.Transfers.{reads, writes, wrote}
-use Rattle.stair_story.specs.Pieces.{part_of, piece_blocks, whole_of}
+use Rattle.stair_engine.specs.Blocks.{IsInRange, if_in_range, read_program, within_range, write_program}
+use Rattle.stair_command.specs.Transfers.{reads, writes, wrote}
+use Rattle.stair_command.specs.Pieces.{part_of, piece_blocks, whole_of}
 use Rattle.stair_engine.specs.Jobs.{MayAdmit, IsScripted}
-use Rattle.stair_engine.specs.Mending.{if_live, if_slot, rebuild_plan, rebuilt_line, replace_plan, replaces, scrub_plan, scrubs, stamps}
+use Rattle.stair_engine.specs.Mending.{if_live, if_slot, rebuild_program, rebuilt_line, replace_program, replaces, scrub_program, scrubs, stamps}
 use Rattle.stair_array.specs.Promise.{Begun}
-use Rattle.stair_session.specs.SeatSteps.{MayDrop}
+use Rattle.stair_invariant.specs.SeatSteps.{MayDrop}
 use Rattle.stair_super.specs.declared.mark.Mark.{Mark}
 use Rattle.stair_super.specs.declared.mark.Mark.TheVariants.{Down, Live, Rebuilding}
-use Rattle.stair_story.specs.Devices.{DeviceView, MeansWhole, devices as at}
-use Rattle.stair_story.specs.Ending.{AdmitsNone, AdmitsOnce, AllowsAtMost, EachStep, MakesNoCall}
-use Rattle.stair_story.specs.Plan.{Plan as Plans, Over, Ask, Put, RebuildAll, Take, take_step, if_so}
+use Rattle.stair_command.specs.Devices.{DeviceView, ExecutesWhole, devices as at}
+use Rattle.stair_command.specs.Ending.{AdmitsNone, AdmitsOnce, AllowsAtMost, EachStep, MakesNoCall}
+use Rattle.stair_command.specs.Program.{Program as Programs, Over, Ask, Put, RebuildAll, Take, take_step, if_so}
 use Rattle.stair_engine.proofs.CallLaws.{none_opened, stepless}
 use Rattle.stair_engine.proofs.JobLaws.{job_admits_none, job_allowed, words_tell}
 use Rattle.stair_engine.proofs.RangeLaws.{in_range_is}
-use Rattle.stair_story.proofs.TurnLaws.{blocks_count, few_whole, part_long, part_short, piece_left, piece_some, piece_together, some_whole}
+use Rattle.stair_command.proofs.TurnLaws.{blocks_count, few_whole, part_long, part_short, piece_left, piece_some, piece_together, some_whole}
 use Rattle.stair_engine.proofs.ServeLaws.{serve_done}
 use Rattle.stair_engine.proofs.WordLaws.{over_spelled, spelled_so}
-use Rattle.stair_story.specs.Question.{IsReply, Words}
-use Rattle.stair_story.specs.Sure.{EachCanReplace, HasNoFault, IsDone, IsSure, IsRebuiltFrom, Last, More, ServesAlong, ServesThroughout, most_allowed}
-use Rattle.stair_story.specs.Run.{history_of}
-use Rattle.stair_story.proofs.PlannedLaws.{EachStepOf, steps_of}
-use Rattle.stair_story.specs.Served.{EndsServed}
-use Rattle.stair_story.proofs.PlannedSureLaws.{none_replaced, none_replaced_in, planned_sure}
-use Rattle.stair_story.proofs.ServedLaws.{ends_as_served, planned_served}
+use Rattle.stair_command.specs.Question.{IsReply, Words}
+use Rattle.stair_command.specs.Sure.{EachCanReplace, HasNoFault, IsDone, Completes, IsRebuiltFrom, Last, More, ServesAlong, ServesThroughout, most_allowed}
+use Rattle.stair_command.specs.Run.{history_of}
+use Rattle.stair_command.proofs.PlannedLaws.{EachStepOf, steps_of}
+use Rattle.stair_command.specs.Served.{EndsServed}
+use Rattle.stair_command.proofs.PlannedSureLaws.{none_replaced, none_replaced_in, planned_sure}
+use Rattle.stair_command.proofs.ServedLaws.{ends_as_served, planned_served}
 use Rattle.stair_engine.proofs.VolumesLaws.{costs_call_none, costs_sure, spelled_command, volumes_end}
 use Rattle.stair_volume.specs.Ends.{MayEnd}
-use Rattle.stair_story.proofs.SureDeviceLaws.{devices_replace}
+use Rattle.stair_command.proofs.SureDeviceLaws.{devices_replace}
 use Rattle.stair_engine.proofs.MendLaws.{replaces_once}
 use Rattle.stair_engine.proofs.OpenLaws.{opening_once}
 use Rattle.stair_engine.proofs.ExerciseSureLaws.{exercise_sure}
 use Rattle.stair_engine.proofs.HaltLaws.{guarded_ends}
 use Rattle.stair_engine.proofs.ReportLaws.{callless_done, report_calls_none, report_sure}
-use Rattle.stair_engine.specs.Halts.{unguarded, unguarded_plan}
+use Rattle.stair_engine.specs.Halts.{unguarded, unguarded_program}
 use Rattle.stair_engine.proofs.ScriptSureLaws.{run_sure, script_admits_none}
 use Rattle.stair_engine.proofs.SureLaws.{opens_sure, serves_limits, still_thawed}
-use Rattle.stair_story.proofs.AllEnds.{AllEnd}
-use Rattle.stair_story.proofs.AlongLaws.{along_any}
+use Rattle.stair_command.proofs.AllEnds.{AllEnd}
+use Rattle.stair_command.proofs.AlongLaws.{along_any}
 use Rattle.stair_script.specs.declared.line.Line.{Line}
-use Rattle.stair_monitor.specs.Reports.{report_plan}
-use Rattle.stair_story.specs.Story.{Leads, Moves}
-use Rattle.stair_story.proofs.SureLaws.{look_sure, stepless_done}
+use Rattle.stair_monitor.specs.Reports.{report_program}
+use Rattle.stair_command.specs.Trace.{AlongTrace, StepsProgram}
+use Rattle.stair_command.proofs.SureLaws.{look_sure, stepless_done}
 
 -- ---- bytes make one stripe
 
@@ -179,7 +179,7 @@ module _ {R S K : Type 0} (rack : RackView R) (view : Views S K) (a : Outside S 
   Complete job end o z = IsComplete rack view job end a o x z
 
   making_done : (text : List ℕ) (reply : Result Geometry ConfigFault) (source : S) (n : ℕ) → IfSome (view.source.left a.source) (λ all. text ≡ all)
-      → TextReadsAs text reply → AllEnd (Works rack) view (Complete Create) (making_plan reply) (outside source a.sink n) x
+      → TextReadsAs text reply → AllEnd (Works rack) view (Complete Create) (making_program reply) (outside source a.sink n) x
   making_done text (Ok g) source n told reads = (
     (
       λ done z did. (λ sink holds none can. inl refl, λ part sink is holds none can. absurd (none.sink holds.2)),
@@ -196,7 +196,7 @@ module _ {R S K : Type 0} (rack : RackView R) (view : Views S K) (a : Outside S 
   making_done text (Err fault) source n told reads =
       λ none can. let clash = text_is (view.source.left a.source) text can.0 (Err fault) (Ok can.2.0) can.1 told reads can.2.1 in absurd cc
 
-  create_done : AllEnd (Works rack) view (Complete Create) create_plan a x
+  create_done : AllEnd (Works rack) view (Complete Create) create_program a x
   create_done = (
     λ bytes source long gives none can.
         let taken = of_told (view.source.left a.source) can.0 (λ all. length bytes ≤ length all) can.1
@@ -213,7 +213,7 @@ module _ {R S K : Type 0} (rack : RackView R) (view : Views S K) (a : Outside S 
 
 -- blocks in range are read
 reads_sure : (g : Geometry) (first count : ℕ) (s : State) (left : Option (List ℕ)) → first + count ≤ block_count s.geometry
-    → IsSure [] (reads g first count) s left
+    → Completes [] (reads g first count) s left
 reads_sure g first zero s left within = refl
 reads_sure g first (suc count) s left within = (
   λ seats is free. omega (arith, within),
@@ -221,13 +221,13 @@ reads_sure g first (suc count) s left within = (
 )
 
 -- what is in range isn't refused for its range
-within_sure : (g : Geometry) (first count : ℕ) (plan : Plans) (s : State) (left : Option (List ℕ)) → IsInRange g first count
-    → IsSure [] plan s left → IsSure [] (within_range g first count plan) s left
-within_sure g first count plan s left within sure =
-    subst (λ (is : Bool). IsSure [] (if_in_range g first is plan) s left) (sym (in_range_is g first count within)) sure
+within_sure : (g : Geometry) (first count : ℕ) (program : Programs) (s : State) (left : Option (List ℕ)) → IsInRange g first count
+    → Completes [] program s left → Completes [] (within_range g first count program) s left
+within_sure g first count program s left within sure =
+    subst (λ (is : Bool). Completes [] (if_in_range g first is program) s left) (sym (in_range_is g first count within)) sure
 
 read_sure : (first count : ℕ) (s : State) (left : Option (List ℕ)) → IsInRange s.geometry first count
-    → IsSure [] (read_plan first count) s left
+    → Completes [] (read_program first count) s left
 read_sure first count s left within =
     opens_sure (λ g. within_range g first count (reads g first count)) s left
     (λ later decided same.
@@ -235,14 +235,14 @@ read_sure first count s left within =
     (none_or first count s.geometry later left same within))
   where
     none_or : (first count : ℕ) (g : Geometry) (later : State) (left : Option (List ℕ)) → later.geometry ≡ g → IsInRange g first count
-        → IsSure [] (reads g first count) later left
+        → Completes [] (reads g first count) later left
     none_or first zero g later left same within = refl
     none_or first (suc count) g later left same within =
         reads_sure g first (suc count) later left (omega (arith, within (omega arith), ap (λ (k : Geometry). block_count k) same))
 
 -- all stripes are scrubbed
 scrubs_sure : (g : Geometry) (stripe count cells : ℕ) (s : State) (left : Option (List ℕ)) → stripe + count ≤ s.geometry.stripes
-    → IsSure [] (scrubs g stripe count cells) s left
+    → Completes [] (scrubs g stripe count cells) s left
 scrubs_sure g stripe zero cells s left within = refl
 scrubs_sure g stripe (suc count) cells s left within = (
   λ seats is free. omega (arith, within),
@@ -250,13 +250,13 @@ scrubs_sure g stripe (suc count) cells s left within = (
       scrubs_sure g (stripe + 1) count (cells + repaired) later left (omega (arith, within, ap (λ (k : Geometry). k.stripes) done.row.geometry)),
 )
 
-scrub_sure : (s : State) (left : Option (List ℕ)) → IsSure [] scrub_plan s left
+scrub_sure : (s : State) (left : Option (List ℕ)) → Completes [] scrub_program s left
 scrub_sure s left =
     opens_sure (λ g. scrubs g 0 g.stripes 0) s left
     (λ later decided same. scrubs_sure s.geometry 0 s.geometry.stripes 0 later left (omega (arith, ap (λ (k : Geometry). k.stripes) same)))
 
 -- what is rebuilt is rebuilt to its end
-rebuild_sure : (s : State) (left : Option (List ℕ)) → IsSure [] rebuild_plan s left
+rebuild_sure : (s : State) (left : Option (List ℕ)) → Completes [] rebuild_program s left
 rebuild_sure s left =
     opens_sure (λ g. RebuildAll g.n 0 (λ steps. Put (rebuilt_line steps) (Over Done))) s left (λ later decided same steps last rebuilt. refl)
 
@@ -287,7 +287,7 @@ rebuilt_live slot end s (More _ mid progress did rest) seats ended known last up
     rebuilt_live slot end mid rest did.row.seats ended did.row.known last (did.keeps slot (inl refl) up_then)
 
 -- a slot of the array is replaced, and is live in the end
-replaces_sure : (g : Geometry) (slot : ℕ) (s : State) (left : Option (List ℕ)) → slot < s.geometry.n → IsSure [] (replaces g slot) s left
+replaces_sure : (g : Geometry) (slot : ℕ) (s : State) (left : Option (List ℕ)) → slot < s.geometry.n → Completes [] (replaces g slot) s left
 replaces_sure g slot s left below = (
   λ seats known free. (below, free),
   λ given gone admitted done steps end rebuilt. (
@@ -297,26 +297,26 @@ replaces_sure g slot s left below = (
         let up : (done.row.seats slot).mark ≢ Down = λ down. let never : Rebuilding ≡ Down = sym is ∙ down in cc in
         let live : (look.begun slot).mark ≡ Live = rebuilt_live slot end admitted rebuilt done.row.seats look.begun done.row.known look.begins up in
         let seen : (seats slot).mark ≡ Live = ap (λ (is : Seats). (is slot).mark) look.row.marks.0 ∙ live in
-        subst (λ (mark : Mark). IsSure (slot ∷ []) (if_live slot mark) shown left) (sym seen) refl,
+        subst (λ (mark : Mark). Completes (slot ∷ []) (if_live slot mark) shown left) (sym seen) refl,
   ),
 )
 
-replace_sure : (slot : ℕ) (s : State) (left : Option (List ℕ)) → slot < s.geometry.n → IsSure [] (replace_plan slot) s left
+replace_sure : (slot : ℕ) (s : State) (left : Option (List ℕ)) → slot < s.geometry.n → Completes [] (replace_program slot) s left
 replace_sure slot s left below =
     opens_sure (λ g. if_slot g slot (nat_lt slot g.n) (replaces g slot)) s left
     (λ later decided same.
-    subst (λ (has : Bool). IsSure [] (if_slot s.geometry slot has (replaces s.geometry slot)) later left) (sym (lt-ltb slot s.geometry.n below))
+    subst (λ (has : Bool). Completes [] (if_slot s.geometry slot has (replaces s.geometry slot)) later left) (sym (lt-ltb slot s.geometry.n below))
     (replaces_sure s.geometry slot later left (omega (arith, below, ap (λ (g : Geometry). g.n) same))))
 
 -- a step that passes its tests in any state
 stamps_sure : (step : Step) (line : List ℕ) → ((s : State) (seats : Seats) → s.seats ≡ Some seats → PassesTests step s seats) → (s : State)
-    (left : Option (List ℕ)) → IsSure [] (stamps step line) s left
+    (left : Option (List ℕ)) → Completes [] (stamps step line) s left
 stamps_sure step line passes s left =
     opens_sure (λ g. take_step g.n step (λ done. Put line (Over Done))) s left
     (λ later decided same. (λ seats is free. passes later seats is, λ given gone last done. refl))
 
 -- the end comes after the last block
-wrote_sure : (all : ℕ) (s : State) → IsSure [] (wrote all) s (Some [])
+wrote_sure : (all : ℕ) (s : State) → Completes [] (wrote all) s (Some [])
 wrote_sure all s = (
   λ bytes rest told enough. absurd (omega (arith, ap length told, enough.enough, length-append bytes rest)),
   λ few. refl,
@@ -326,9 +326,9 @@ wrote_sure all s = (
 module _ (g : Geometry) (first all : ℕ) (within : first + all ≤ block_count g) where
   writes_sure : (turns done : ℕ) (held : List ℕ) (s : State) (told : List ℕ) → all ≤ done + turns → done ≤ all
       → length held + length told ≡ SECTOR * (all - done) → length held < SECTOR → s.geometry ≡ g → s.content.frozen ≡ false
-      → IsSure [] (writes g first all turns done held) s (Some told)
+      → Completes [] (writes g first all turns done held) s (Some told)
   writes_sure zero done held s told fuel below long part same thawed =
-      subst (λ (rest : List ℕ). IsSure [] (wrote all) s (Some rest)) (sym (nil_from_length told (omega (arith, long, fuel, below))))
+      subst (λ (rest : List ℕ). Completes [] (wrote all) s (Some rest)) (sym (nil_from_length told (omega (arith, long, fuel, below))))
       (wrote_sure all s)
   writes_sure (suc turns) done held s told fuel below long part same thawed =
       by (nat_lt done all) refl
@@ -340,15 +340,15 @@ module _ (g : Geometry) (first all : ℕ) (within : first + all ≤ block_count 
           → (done + length (held ++ bytes) / SECTOR ≤ all)
           × (length (part_of (held ++ bytes)) + length rest ≡ SECTOR * (all - (done + length (held ++ bytes) / SECTOR)))
           → all ≤ done + length (held ++ bytes) / SECTOR + turns
-          → IsSure [] (writes g first all turns (done + length (held ++ bytes) / SECTOR) (part_of (held ++ bytes))) later (Some rest))
-          → IsSure []
+          → Completes [] (writes g first all turns (done + length (held ++ bytes) / SECTOR) (part_of (held ++ bytes))) later (Some rest))
+          → Completes []
           (if_so left
           (Take (SECTOR - length held) (SECTOR * piece_blocks g (first + done) (all - done) - length held)
           (λ bytes. take_step g.n (WriteBlocks (first + done) (blocks_of (whole_of (held ++ bytes))))
           (λ ok. writes g first all turns (done + length (held ++ bytes) / SECTOR) (part_of (held ++ bytes))))
           (λ bytes. Over (Input (SECTOR * all) (SECTOR * done + length (held ++ bytes))))) (wrote all)) s (Some told)
       by false is again =
-          subst (λ (rest : List ℕ). IsSure [] (wrote all) s (Some rest))
+          subst (λ (rest : List ℕ). Completes [] (wrote all) s (Some rest))
           (sym (nil_from_length told (omega (arith, long, ltb-false done all is)))) (wrote_sure all s)
       by true is again =
           let left = ltb-true done all is in (
@@ -378,7 +378,7 @@ module _ (g : Geometry) (first all : ℕ) (within : first + all ≤ block_count 
           )
 
 write_sure : (first count : ℕ) (s : State) (told : List ℕ) → IsInRange s.geometry first count → length told ≡ SECTOR * count
-    → (0 < count → IsThawed s) → IsSure [] (write_plan first count) s (Some told)
+    → (0 < count → IsThawed s) → Completes [] (write_program first count) s (Some told)
 write_sure first count s told within long thawed =
     opens_sure (λ g. within_range g first count (writes g first count count 0 [])) s (Some told)
     (λ later decided same.
@@ -386,65 +386,65 @@ write_sure first count s told within long thawed =
     (by count s.geometry later same within long (λ some. still_thawed s later decided (thawed some))))
   where
     by : (count : ℕ) (g : Geometry) (later : State) → later.geometry ≡ g → IsInRange g first count → length told ≡ SECTOR * count
-        → (0 < count → later.content.frozen ≡ false) → IsSure [] (writes g first count count 0 []) later (Some told)
+        → (0 < count → later.content.frozen ≡ false) → Completes [] (writes g first count count 0 []) later (Some told)
     by zero g later same within long thawed =
-        subst (λ (rest : List ℕ). IsSure [] (wrote 0) later (Some rest)) (sym (nil_from_length told (omega (arith, long)))) (wrote_sure 0 later)
+        subst (λ (rest : List ℕ). Completes [] (wrote 0) later (Some rest)) (sym (nil_from_length told (omega (arith, long)))) (wrote_sure 0 later)
     by (suc count) g later same within long thawed =
         writes_sure g first (suc count) (within (omega arith)) (suc count) 0 [] later told (omega arith) (omega arith) (omega (arith, long)) (omega arith)
         same (thawed (omega arith))
 
 module _ {R S K : Type 0} (returning : Returning) (rack : RackView R) (view : Views S K) where
   show_done : (words : List (List ℕ)) (status : Status) (a b : Outside S K) (x y : R) → Spells words Show
-      → MeansOver rack view (plan_of words) (Over status) a b x y → HasNoFault view a b → IsTrue rack.honest
+      → ExecutesOver rack view (program_of words) (Over status) a b x y → HasNoFault view a b → IsTrue rack.honest
       → StandsThroughout returning (rack.history x) (rack.history y) → IsDone status
   show_done words status a b x y spells over none honest since =
-      stepless_done returning rack honest since.before view (plan_of words) status since.state a b x y over since.since since.stands since.calm none
-      (spelled_so (λ plan. IsSure [] plan (without_seats since.state) (view.source.left a.source)) words Show spells
+      stepless_done returning rack honest since.before view (program_of words) status since.state a b x y over since.since since.stands since.calm none
+      (spelled_so (λ program. Completes [] program (without_seats since.state) (view.source.left a.source)) words Show spells
       (look_sure [] show_text (without_seats since.state) (view.source.left a.source)))
 
--- a call of the words of a sure command, on an array that serves along its story
+-- a call of the words of a sure command, on an array that serves along its trace
 module _ {R W S K : Type 0} (returning : Returning) (devices : DeviceView R W) (view : Views S K) (words : List (List ℕ)) (of : Job)
     (spells : Spells words of) (status : Status) (a b : Outside S K) (x y : R) (watchers left : List W)
-    (whole : MeansWhole devices view (plan_of words) (Over status) a b x y watchers left) (none : HasNoFault view a b) (s : State)
+    (whole : ExecutesWhole devices view (program_of words) (Over status) a b x y watchers left) (none : HasNoFault view a b) (s : State)
   where
     abbrev ServesIt : Type 0
-    ServesIt = ServesAlong returning devices s whole.with.means.story (at x Begun watchers) (at y whole.session left) whole.with.works
+    ServesIt = ServesAlong returning devices s whole.with.means.trace (at x Begun watchers) (at y whole.session left) whole.with.works
 
-    served_where : ServesIt → EachCanReplace devices s.geometry whole.with.means.story (at x Begun watchers) (at y whole.session left) whole.with.works
-        → IsSure [] (job_plan of) (without_seats s) (view.source.left a.source) → IsDone status
+    served_where : ServesIt → EachCanReplace devices s.geometry whole.with.means.trace (at x Begun watchers) (at y whole.session left) whole.with.works
+        → Completes [] (job_program of) (without_seats s) (view.source.left a.source) → IsDone status
     served_where serves can sure =
-        planned_sure devices view returning (plan_of words) status s a b x y watchers left whole
+        planned_sure devices view returning (program_of words) status s a b x y watchers left whole
         (spelled_so (AllowsAtMost most_allowed) words of spells (job_allowed of)) serves none can
-        (spelled_so (λ plan. IsSure [] plan (without_seats s) (view.source.left a.source)) words of spells sure)
+        (spelled_so (λ program. Completes [] program (without_seats s) (view.source.left a.source)) words of spells sure)
 
     -- which admits no medium
-    served : ¬ MayAdmit of → ServesIt → IsSure [] (job_plan of) (without_seats s) (view.source.left a.source) → IsDone status
+    served : ¬ MayAdmit of → ServesIt → Completes [] (job_program of) (without_seats s) (view.source.left a.source) → IsDone status
     served other serves sure =
         served_where serves
-        (none_replaced devices view (plan_of words) (Over status) s.geometry a b (at x Begun watchers) (at y whole.session left) whole.with
+        (none_replaced devices view (program_of words) (Over status) s.geometry a b (at x Begun watchers) (at y whole.session left) whole.with
         (spelled_so (EachStep AdmitsNone) words of spells (job_admits_none of other))) sure
 
     -- or admits none of the source's input
-    served_none : ServesIt → EachStepOf AdmitsNone (job_plan of) (view.source.left a.source)
-        → IsSure [] (job_plan of) (without_seats s) (view.source.left a.source) → IsDone status
+    served_none : ServesIt → EachStepOf AdmitsNone (job_program of) (view.source.left a.source)
+        → Completes [] (job_program of) (without_seats s) (view.source.left a.source) → IsDone status
     served_none serves admits sure =
         let last = at y whole.session left in
         served_where serves
-        (none_replaced_in devices s.geometry (history_of devices last) whole.with.means.story (at x Begun watchers) last whole.with.works
-        (steps_of AdmitsNone view.source whole.with.means.story (plan_of words) (Over status) a.source b.source
-        (spelled_so (λ plan. EachStepOf AdmitsNone plan (view.source.left a.source)) words of spells admits)
+        (none_replaced_in devices s.geometry (history_of devices last) whole.with.means.trace (at x Begun watchers) last whole.with.works
+        (steps_of AdmitsNone view.source whole.with.means.trace (program_of words) (Over status) a.source b.source
+        (spelled_so (λ program. EachStepOf AdmitsNone program (view.source.left a.source)) words of spells admits)
         whole.with.means.follows whole.with.means.bears.gives)) sure
 
     -- its geometry is within its limits
     served_limits : ServesIt → IsWithinLimits s.geometry
     served_limits serves =
-        serves_limits returning devices s whole.with.means.story (Ask (Words words) if_spelled) status (at x Begun watchers) (at y whole.session left)
+        serves_limits returning devices s whole.with.means.trace (Ask (Words words) if_spelled) status (at x Begun watchers) (at y whole.session left)
         whole.with.works refl whole.with.means.follows serves
 
 -- ---- scripts
 
--- the plan without a guard is sure, and allows as many draws
-unguarded_so : (IsSo : Plans → Type 0) (words : List (List ℕ)) (events fences : ℕ) → Spells words (Guard events fences) → IsSo run_plan
+-- the program without a guard is sure, and allows as many draws
+unguarded_so : (IsSo : Programs → Type 0) (words : List (List ℕ)) (events fences : ℕ) → Spells words (Guard events fences) → IsSo run_program
     → (reply : Option Job) → IsReply (Words words) reply → IsSo (unguarded reply)
 unguarded_so IsSo words events fences spells so None not = absurd (not (Guard events fences, spells))
 unguarded_so IsSo words events fences spells so (Some job) read =
@@ -452,32 +452,32 @@ unguarded_so IsSo words events fences spells so (Some job) read =
 
 module _ {R W S K : Type 0} (returning : Returning) (devices : DeviceView R W) (view : Views S K) (words : List (List ℕ)) where
   script_finished : (of : Job) → IsScripted of → Spells words of → (status : Status) (a b : Outside S K) (x y : R) (watchers left : List W)
-      → (whole : MeansWhole devices view (plan_of words) (Over status) a b x y watchers left) → HasNoFault view a b → (s : State) (input : List ℕ)
+      → (whole : ExecutesWhole devices view (program_of words) (Over status) a b x y watchers left) → HasNoFault view a b → (s : State) (input : List ℕ)
       (script : List Line) → IsScriptOf s script input
-      → ServesAlong returning devices s whole.with.means.story (at x Begun watchers) (at y whole.session left) whole.with.works
-      → EachCanReplace devices s.geometry whole.with.means.story (at x Begun watchers) (at y whole.session left) whole.with.works
+      → ServesAlong returning devices s whole.with.means.trace (at x Begun watchers) (at y whole.session left) whole.with.works
+      → EachCanReplace devices s.geometry whole.with.means.trace (at x Begun watchers) (at y whole.session left) whole.with.works
       → view.source.left a.source ≡ Some input → IsFinished of status
   script_finished Run scripted spells status a b x y watchers left whole none s input script is serves can told =
       served_where returning devices view words Run spells status a b x y watchers left whole none s serves can
-      (subst (λ (left : Option (List ℕ)). IsSure [] run_plan (without_seats s) left) (sym told) (run_sure s script input is))
+      (subst (λ (left : Option (List ℕ)). Completes [] run_program (without_seats s) left) (sym told) (run_sure s script input is))
   script_finished (Guard events fences) scripted spells status a b x y watchers left whole none s input script is serves can told =
-      elim (guarded_ends words events fences spells whole.with.means.story status whole.with.means.follows) [
+      elim (guarded_ends words events fences spells whole.with.means.trace status whole.with.means.follows) [
         | inr halted ↦ inr (halted.0, halted.1)
         | inl own ↦ inl (done own.1)
       ]
     where
       -- it did as one that isn't guarded
-      done : Leads Moves whole.with.means.story (unguarded_plan words) (Over status) → IsDone status
+      done : AlongTrace StepsProgram whole.with.means.trace (unguarded_program words) (Over status) → IsDone status
       done follows =
-          planned_sure devices view returning (unguarded_plan words) status s a b x y watchers left (record {
+          planned_sure devices view returning (unguarded_program words) status s a b x y watchers left (record {
             session = whole.session;
             with = record {
-              means = record { story = whole.with.means.story; follows = follows; bears = whole.with.means.bears };
+              means = record { trace = whole.with.means.trace; follows = follows; bears = whole.with.means.bears };
               works = whole.with.works;
             };
           }) (unguarded_so (AllowsAtMost most_allowed) words events fences spells (job_allowed Run)) serves none can
-          (unguarded_so (λ plan. IsSure [] plan (without_seats s) (view.source.left a.source)) words events fences spells
-          (subst (λ (left : Option (List ℕ)). IsSure [] run_plan (without_seats s) left) (sym told) (run_sure s script input is)))
+          (unguarded_so (λ program. Completes [] program (without_seats s) (view.source.left a.source)) words events fences spells
+          (subst (λ (left : Option (List ℕ)). Completes [] run_program (without_seats s) left) (sym told) (run_sure s script input is)))
   script_finished (OneStripe command n m r e) scripted spells status a b x y watchers left whole none s input script is serves can told = absurd scripted
   script_finished Create scripted spells status a b x y watchers left whole none s input script is serves can told = absurd scripted
   script_finished Show scripted spells status a b x y watchers left whole none s input script is serves can told = absurd scripted
@@ -499,99 +499,99 @@ module _ {R W S K : Type 0} (returning : Returning) (devices : DeviceView R W) (
 any_state : State
 any_state = created_state (one_stripe 0 0 0 [])
 
-pub all_is_complete_wherever : (R W S K : Type 0) → AllIsCompleteWherever R W S K
-all_is_complete_wherever R W S K returning devices view words (OneStripe command n m r e) status a b x y watchers left spells whole none can =
+pub all_is_complete_with_reinsertion : (R W S K : Type 0) → AllIsCompleteWithReinsertion R W S K
+all_is_complete_with_reinsertion R W S K returning devices view words (OneStripe command n m r e) status a b x y watchers left spells whole none can =
     let of = one_stripe n m r e in
     let does = words_are_done view words command n m r e status a b spells whole.with.means in
     let told = words_tell view words status a b whole.with.means in
     stripe_done command of can.0 (view.sink.held a.sink) (view.sink.held b.sink) status can.2
     (of_told (view.source.left a.source) can.0 (λ bytes. HasCause command of bytes (view.sink.held a.sink) (view.sink.held b.sink) status) can.1 does.cause)
     (λ is. none.source (told.input_fault is)) (λ is. none.sink (told.output_fault is))
-all_is_complete_wherever R W S K returning devices view words Create status a b x y watchers left spells whole none can =
+all_is_complete_with_reinsertion R W S K returning devices view words Create status a b x y watchers left spells whole none can =
     over_spelled devices.rack view (Complete devices.rack view a x Create) words status a b x y
     (stepless devices view words status a b x y watchers left whole (none_opened words Create spells (λ no. no))) Create spells (λ no input. inr refl)
     (create_done devices.rack view a x) none can
-all_is_complete_wherever R W S K returning devices view words Show status a b x y watchers left spells whole none can =
+all_is_complete_with_reinsertion R W S K returning devices view words Show status a b x y watchers left spells whole none can =
     show_done returning devices.rack view words status a b x y spells
     (stepless devices view words status a b x y watchers left whole (none_opened words Show spells (λ no. no))) none can.0 can.1
-all_is_complete_wherever R W S K returning devices view words (Read first count) status a b x y watchers left spells whole none can =
+all_is_complete_with_reinsertion R W S K returning devices view words (Read first count) status a b x y watchers left spells whole none can =
     served returning devices view words (Read first count) spells status a b x y watchers left whole none can.0 (λ no. no) can.1
     (read_sure first count (without_seats can.0) (view.source.left a.source) can.2)
-all_is_complete_wherever R W S K returning devices view words (Write first count) status a b x y watchers left spells whole none can =
+all_is_complete_with_reinsertion R W S K returning devices view words (Write first count) status a b x y watchers left spells whole none can =
     let is = can.2 in
     served returning devices view words (Write first count) spells status a b x y watchers left whole none is.0 (λ no. no) is.1
-    (subst (λ (told : Option (List ℕ)). IsSure [] (write_plan first count) (without_seats is.0) told) (sym can.1)
+    (subst (λ (told : Option (List ℕ)). Completes [] (write_program first count) (without_seats is.0) told) (sym can.1)
     (write_sure first count (without_seats is.0) can.0 is.2 is.3 is.4))
-all_is_complete_wherever R W S K returning devices view words Scrub status a b x y watchers left spells whole none can =
+all_is_complete_with_reinsertion R W S K returning devices view words Scrub status a b x y watchers left spells whole none can =
     served returning devices view words Scrub spells status a b x y watchers left whole none can.0 (λ no. no) can.1
     (scrub_sure (without_seats can.0) (view.source.left a.source))
-all_is_complete_wherever R W S K returning devices view words (Replace slot) status a b x y watchers left spells whole none can =
+all_is_complete_with_reinsertion R W S K returning devices view words (Replace slot) status a b x y watchers left spells whole none can =
     let device = can.2 in
     served_where returning devices view words (Replace slot) spells status a b x y watchers left whole none can.0 can.1
-    (devices_replace returning devices view (plan_of words) (Over status) can.0 slot a b x y watchers left whole
+    (devices_replace returning devices view (program_of words) (Over status) can.0 slot a b x y watchers left whole
     (spelled_so (AdmitsOnce slot) words (Replace slot) spells
     (λ member. opening_once slot member.array.geometry.n _ (λ g. replaces_once g slot))) can.1 device)
     (replace_sure slot (without_seats can.0) (view.source.left a.source) device.stays.below)
-all_is_complete_wherever R W S K returning devices view words Rebuild status a b x y watchers left spells whole none can =
+all_is_complete_with_reinsertion R W S K returning devices view words Rebuild status a b x y watchers left spells whole none can =
     served returning devices view words Rebuild spells status a b x y watchers left whole none can.0 (λ no. no) can.1
     (rebuild_sure (without_seats can.0) (view.source.left a.source))
-all_is_complete_wherever R W S K returning devices view words Freeze status a b x y watchers left spells whole none can =
+all_is_complete_with_reinsertion R W S K returning devices view words Freeze status a b x y watchers left spells whole none can =
     served returning devices view words Freeze spells status a b x y watchers left whole none can.0 (λ no. no) can.1
     (stamps_sure (SetFrozen true) (codes "frozen" ++ 10 ∷ []) (λ s seats is. tt) (without_seats can.0) (view.source.left a.source))
-all_is_complete_wherever R W S K returning devices view words Thaw status a b x y watchers left spells whole none can =
+all_is_complete_with_reinsertion R W S K returning devices view words Thaw status a b x y watchers left spells whole none can =
     served returning devices view words Thaw spells status a b x y watchers left whole none can.0 (λ no. no) can.1
     (stamps_sure (SetFrozen false) (codes "thawed" ++ 10 ∷ []) (λ s seats is. tt) (without_seats can.0) (view.source.left a.source))
-all_is_complete_wherever R W S K returning devices view words (Label text) status a b x y watchers left spells whole none can =
+all_is_complete_with_reinsertion R W S K returning devices view words (Label text) status a b x y watchers left spells whole none can =
     served returning devices view words (Label text) spells status a b x y watchers left whole none can.0 (λ no. no) can.1
     (stamps_sure (SetLabel text) (codes "labelled" ++ 10 ∷ []) (λ s seats is. tt) (without_seats can.0) (view.source.left a.source))
-all_is_complete_wherever R W S K returning devices view words (Exercise number count) status a b x y watchers left spells whole none can =
+all_is_complete_with_reinsertion R W S K returning devices view words (Exercise number count) status a b x y watchers left spells whole none can =
     served returning devices view words (Exercise number count) spells status a b x y watchers left whole none can.0 (λ no. no) can.1
     (exercise_sure number count (without_seats can.0) (view.source.left a.source)
     (served_limits returning devices view words (Exercise number count) spells status a b x y watchers left whole none can.0 can.1) can.2 can.3)
-all_is_complete_wherever R W S K returning devices view words Run status a b x y watchers left spells whole none can =
+all_is_complete_with_reinsertion R W S K returning devices view words Run status a b x y watchers left spells whole none can =
     let is = can.2 in
     let script = is.2 in
     served_none returning devices view words Run spells status a b x y watchers left whole none is.0 is.1
-    (subst (λ (told : Option (List ℕ)). EachStepOf AdmitsNone run_plan told) (sym can.1)
+    (subst (λ (told : Option (List ℕ)). EachStepOf AdmitsNone run_program told) (sym can.1)
     (script_admits_none false script.0 can.0 script.1.few script.1.script script.2))
-    (subst (λ (told : Option (List ℕ)). IsSure [] run_plan (without_seats is.0) told) (sym can.1) (run_sure is.0 script.0 can.0 script.1))
-all_is_complete_wherever R W S K returning devices view words (Guard events fences) status a b x y watchers left spells whole none can =
+    (subst (λ (told : Option (List ℕ)). Completes [] run_program (without_seats is.0) told) (sym can.1) (run_sure is.0 script.0 can.0 script.1))
+all_is_complete_with_reinsertion R W S K returning devices view words (Guard events fences) status a b x y watchers left spells whole none can =
     let is = can.2 in
     let script = is.2 in
     script_finished returning devices view words (Guard events fences) tt spells status a b x y watchers left whole none is.0 can.0 script.0 script.1 is.1
-    (none_replaced_in devices is.0.geometry (history_of devices (at y whole.session left)) whole.with.means.story (at x Begun watchers)
+    (none_replaced_in devices is.0.geometry (history_of devices (at y whole.session left)) whole.with.means.trace (at x Begun watchers)
     (at y whole.session left) whole.with.works
-    (steps_of AdmitsNone view.source whole.with.means.story (plan_of words) (Over status) a.source b.source
-    (spelled_so (λ plan. EachStepOf AdmitsNone plan (view.source.left a.source)) words (Guard events fences) spells
-    (subst (λ (told : Option (List ℕ)). EachStepOf AdmitsNone guard_plan told) (sym can.1)
+    (steps_of AdmitsNone view.source whole.with.means.trace (program_of words) (Over status) a.source b.source
+    (spelled_so (λ program. EachStepOf AdmitsNone program (view.source.left a.source)) words (Guard events fences) spells
+    (subst (λ (told : Option (List ℕ)). EachStepOf AdmitsNone guard_program told) (sym can.1)
     (script_admits_none true script.0 can.0 script.1.few script.1.script script.2)))
     whole.with.means.follows whole.with.means.bears.gives)) can.1
-all_is_complete_wherever R W S K returning devices view words Report status a b x y watchers left spells whole none can =
+all_is_complete_with_reinsertion R W S K returning devices view words Report status a b x y watchers left spells whole none can =
     let events = can.2 in
-    callless_done view (plan_of words) status a b whole.with.means (spelled_so MakesNoCall words Report spells report_calls_none) none any_state
-    (spelled_so (λ plan. IsSure [] plan any_state (view.source.left a.source)) words Report spells
-    (subst (λ (told : Option (List ℕ)). IsSure [] report_plan any_state told) (sym can.1) (report_sure any_state events.0 can.0 events.1 events.2)))
-all_is_complete_wherever R W S K returning devices view words Serve status a b x y watchers left spells whole none can =
+    callless_done view (program_of words) status a b whole.with.means (spelled_so MakesNoCall words Report spells report_calls_none) none any_state
+    (spelled_so (λ program. Completes [] program any_state (view.source.left a.source)) words Report spells
+    (subst (λ (told : Option (List ℕ)). Completes [] report_program any_state told) (sym can.1) (report_sure any_state events.0 can.0 events.1 events.2)))
+all_is_complete_with_reinsertion R W S K returning devices view words Serve status a b x y watchers left spells whole none can =
     let is = can.2 in
     serve_done returning devices view words spells status a b x y watchers left whole none is.0 is.1 can.0 can.1 is.2
-all_is_complete_wherever R W S K returning devices view words (Volume of) status a b x y watchers left spells whole none can =
+all_is_complete_with_reinsertion R W S K returning devices view words (Volume of) status a b x y watchers left spells whole none can =
     let s = can.0 in
     let served =
-    planned_served devices view returning (plan_of words) status s a b x y watchers left whole
+    planned_served devices view returning (program_of words) status s a b x y watchers left whole
     (spelled_so (AllowsAtMost most_allowed) words (Volume of) spells (job_allowed (Volume of))) can.1
-    (none_replaced devices view (plan_of words) (Over status) s.geometry a b (at x Begun watchers) (at y whole.session left) whole.with
+    (none_replaced devices view (program_of words) (Over status) s.geometry a b (at x Begun watchers) (at y whole.session left) whole.with
     (spelled_so (EachStep AdmitsNone) words (Volume of) spells (job_admits_none (Volume of) (λ no. no)))) in
-    ends_as_served view (MayEnd of) devices (plan_of words) status s a b x y watchers left whole served none
-    (spelled_so (λ plan. EndsServed (MayEnd of) plan (without_seats s)) words (Volume of) spells
+    ends_as_served view (MayEnd of) devices (program_of words) status s a b x y watchers left whole served none
+    (spelled_so (λ program. EndsServed (MayEnd of) program (without_seats s)) words (Volume of) spells
     (volumes_end of (without_seats s) (spelled_command words of spells)
     (served_limits returning devices view words (Volume of) spells status a b x y watchers left whole none s can.1)))
-all_is_complete_wherever R W S K returning devices view words (Plan n m r e) status a b x y watchers left spells whole none can =
-    callless_done view (plan_of words) status a b whole.with.means
+all_is_complete_with_reinsertion R W S K returning devices view words (Plan n m r e) status a b x y watchers left spells whole none can =
+    callless_done view (program_of words) status a b whole.with.means
     (spelled_so MakesNoCall words (Plan n m r e) spells (costs_call_none (one_stripe n m r e))) none any_state
-    (spelled_so (λ plan. IsSure [] plan any_state (view.source.left a.source)) words (Plan n m r e) spells
+    (spelled_so (λ program. Completes [] program any_state (view.source.left a.source)) words (Plan n m r e) spells
     (costs_sure (one_stripe n m r e) any_state (view.source.left a.source) can))
 
--- what serves throughout serves along the story
+-- what serves throughout serves along the trace
 can_along : {R : Type 0} (returning : Returning) (Serves Also : State → Type 0) (rack : RackView R) (of : Job) (told : Option (List ℕ)) (x y : R)
     → ((s : State) → Serves s → Also s) → CanBeDone returning Serves rack of told x y → CanBeDone returning Also rack of told x y
 can_along returning Serves Also rack (OneStripe command n m r e) told x y also can = can
@@ -618,10 +618,10 @@ pub all_is_complete : (R W S K : Type 0) → AllIsComplete R W S K
 all_is_complete R W S K devices view words of status a b x y watchers left spells whole none can =
     let first = at x Begun watchers in
     let last = at y whole.session left in
-    all_is_complete_wherever R W S K NoneReturns devices view words of status a b x y watchers left spells whole none
+    all_is_complete_with_reinsertion R W S K NoneReturns devices view words of status a b x y watchers left spells whole none
     (can_along NoneReturns (λ s. ServesThroughout devices.rack s x y)
-    (λ s. ServesAlong NoneReturns devices s whole.with.means.story first last whole.with.works) devices.rack of (view.source.left a.source) x y
-    (λ s serves. along_any devices s whole.with.means.story first last whole.with.works serves) can)
+    (λ s. ServesAlong NoneReturns devices s whole.with.means.trace first last whole.with.works) devices.rack of (view.source.left a.source) x y
+    (λ s serves. along_any devices s whole.with.means.trace first last whole.with.works serves) can)
 
 pub script_is_done : (R W S K : Type 0) → ScriptIsDone R W S K
 script_is_done R W S K returning devices view words of script input status s a b x y watchers left spells scripted whole none serves told is can =

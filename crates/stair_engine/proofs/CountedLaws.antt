@@ -39,37 +39,37 @@ use Rattle.stair_state.specs.Surveyed.{FindsArray}
 use Rattle.stair_state.proofs.RedoPhaseLemmas.{large_some}
 use Rattle.stair_state.proofs.OutsideLemmas.{unwritten_ran}
 use Rattle.stair_state.proofs.SurveyedLemmas.{finds_array}
-use Rattle.stair_session.specs.Courses.{point}
-use Rattle.stair_session.specs.Session.{ArrayState, IsLiveIn}
-use Rattle.stair_session.proofs.OpenLaws.{goes_on_within}
+use Rattle.stair_invariant.specs.Effects.{snapshot}
+use Rattle.stair_invariant.specs.Session.{ArrayState, IsLiveIn}
+use Rattle.stair_invariant.proofs.OpenLaws.{goes_on_within}
 use Rattle.stair_array.specs.Causes.{WasGoneTo, WhyGoesOn}
 use Rattle.stair_array.specs.Machine.{Recover, ScrubStripe}
 use Rattle.stair_array.specs.Openings.{Recovers}
-use Rattle.stair_array.specs.Promise.{AnswersStopped, AreRepaired, Begun, Found, Opened, Performs, Session, StartsFrom, unopened}
+use Rattle.stair_array.specs.Promise.{AnswersStopped, AreRepaired, Begun, Found, Opened, Performs, Phase, StartsFrom, unopened}
 use Rattle.stair_array.proofs.OpenStepLemmas.{IsOpened, starts_open}
 use Rattle.stair_array.proofs.PartsLemmas.{IsPart, live_back}
 use Rattle.stair_array.proofs.PerformsLemmas.{recovered_part}
 use Rattle.stair_conf.specs.declared.job.Job.TheVariants.{Scrub}
-use Rattle.stair_story.specs.Devices.{DeviceView, Devices, KeepsRules, WorksAll, devices, seen_of}
-use Rattle.stair_story.specs.Rack.{told_of}
-use Rattle.stair_story.specs.Living.{IsLiveAt}
-use Rattle.stair_story.specs.Means.{Holds}
-use Rattle.stair_story.specs.Outside.{SinkView}
-use Rattle.stair_story.specs.Question.{Question}
+use Rattle.stair_command.specs.Devices.{DeviceView, Devices, KeepsRules, WorksAll, devices, seen_of}
+use Rattle.stair_command.specs.Rack.{told_of}
+use Rattle.stair_command.specs.Living.{IsLiveAt}
+use Rattle.stair_command.specs.Executes.{Holds}
+use Rattle.stair_command.specs.Outside.{SinkView}
+use Rattle.stair_command.specs.Question.{Question}
 use Rattle.stair_status.specs.declared.status.Status.{Status}
 use Rattle.stair_status.specs.declared.status.Status.TheVariants.{Done}
-use Rattle.stair_story.specs.Plan.{Over, Put}
-use Rattle.stair_story.specs.Story.{Deed, HasPut, PutFailed, Stepped, Leads, Moves}
-use Rattle.stair_story.specs.Sure.{IsThere}
-use Rattle.stair_story.proofs.RunLaws.{one_ran, works_ran}
-use Rattle.stair_story.proofs.SureSlotLaws.{not_gone}
-use Rattle.stair_story.proofs.SureStepLaws.{ends_open}
+use Rattle.stair_command.specs.Program.{Over, Put}
+use Rattle.stair_command.specs.Trace.{TraceItem, HasPut, PutFailed, Stepped, AlongTrace, StepsProgram}
+use Rattle.stair_command.specs.Sure.{IsThere}
+use Rattle.stair_command.proofs.RunLaws.{one_ran, works_ran}
+use Rattle.stair_command.proofs.SureSlotLaws.{not_gone}
+use Rattle.stair_command.proofs.SureStepLaws.{ends_open}
 use Rattle.stair_status.specs.declared.status.Status.TheVariants.{Done}
 use Rattle.stair_engine.specs.Counted.{AreBad, AreBadFrom, IsExact, IsQuiet, IsUndisturbed, PutsAlone, cells_in}
 use Rattle.stair_engine.specs.Laws.{ScrubsAreCounted}
 use Rattle.stair_engine.specs.Mending.{scrubbed_line, scrubs}
-use Rattle.stair_engine.specs.Plans.{plan_of}
-use Rattle.stair_engine.proofs.FollowedLaws.{IsDoneBy, StepFirst, opened_story, opens_first, puts_line, step_first}
+use Rattle.stair_engine.specs.Programs.{program_of}
+use Rattle.stair_engine.proofs.FollowedLaws.{IsDoneBy, StepFirst, opened_trace, opens_first, puts_line, step_first}
 use Rattle.stair_engine.proofs.OpeningLaws.{opening_spares, spared_asked}
 use Rattle.stair_engine.proofs.QuietLaws.{live_found}
 use Rattle.stair_engine.proofs.SparedLaws.{Spared, gate_none, held_before, spared_scrub, stays_bad, stays_good}
@@ -131,12 +131,12 @@ module _ (g : Geometry) (before last : List Happening) (all : Ran any_call befor
 -- ---- scrubs
 
 -- the line is put out, and nothing else
-put_alone : (line : List ℕ) (story : List Deed) → IsDoneBy (Put line (Over Done)) story → PutsAlone line story
+put_alone : (line : List ℕ) (trace : List TraceItem) → IsDoneBy (Put line (Over Done)) trace → PutsAlone line trace
 put_alone line [] follows = absurd (let same : Over Done ≡ Put line (Over Done) = follows in cc)
-put_alone line (HasPut bytes ∷ story) follows = (follows.1.0, (let put = (puts_line line (HasPut bytes ∷ story) follows).is in cc))
-put_alone line (PutFailed part ∷ story) follows =
-    absurd (let put = (puts_line line (PutFailed part ∷ story) follows).is in let never : PutFailed part ≡ HasPut (puts_line line (PutFailed part ∷ story) follows).bytes = cc in cc)
-put_alone line (deed ∷ story) follows = absurd follows.1
+put_alone line (HasPut bytes ∷ trace) follows = (follows.1.0, (let put = (puts_line line (HasPut bytes ∷ trace) follows).is in cc))
+put_alone line (PutFailed part ∷ trace) follows =
+    absurd (let put = (puts_line line (PutFailed part ∷ trace) follows).is in let never : PutFailed part ≡ HasPut (puts_line line (PutFailed part ∷ trace) follows).bytes = cc in cc)
+put_alone line (item ∷ trace) follows = absurd follows.1
 
 module _ {R W : Type 0} (view : DeviceView R W) (honest : IsTrue view.rack.honest) (g : Geometry) (first last : Devices R W)
     (all : Ran any_call (view.rack.history first.rack) (view.rack.history last.rack))
@@ -220,7 +220,7 @@ module _ {R W : Type 0} (view : DeviceView R W) (honest : IsTrue view.rack.hones
       later = rest;
       spared = λ u i j above inside.
           ran_join (ready.spared u i j (omega (arith, above)) inside)
-          (spared_scrub g u i j inside t (Ok count) (point does.was.member (seen_of view x).told) (point does.is.member (seen_of view y).told) does.does
+          (spared_scrub g u i j inside t (Ok count) (snapshot does.was.member (seen_of view x).told) (snapshot does.is.member (seen_of view y).told) does.does
           was_geometry some_slot (λ is. omega (arith, above, is)) honest);
     }
       where
@@ -277,34 +277,34 @@ module _ {R W : Type 0} (view : DeviceView R W) (honest : IsTrue view.rack.hones
 
   -- ---- all stripes
 
-  pub record Counts (t left cells : ℕ) (story : List Deed) : Type 0 where
+  pub record Counts (t left cells : ℕ) (trace : List TraceItem) : Type 0 where
     pub bad : List CellSet
     pub long : length bad ≡ left
     pub are : AreBadFrom g (view.rack.history first.rack) t bad
-    pub put : PutsAlone (scrubbed_line (t + left) (cells + cells_in bad)) story
+    pub put : PutsAlone (scrubbed_line (t + left) (cells + cells_in bad)) trace
 
-  count_all : (slots : Geometry) (left t cells : ℕ) (story : List Deed) → IsDoneBy (scrubs slots t left cells) story → (x : Devices R W)
-      → Leads (WorksAll view) story x last → Ready t x → Counts t left cells story
-  count_all slots zero t cells story follows x works ready = record {
+  count_all : (slots : Geometry) (left t cells : ℕ) (trace : List TraceItem) → IsDoneBy (scrubs slots t left cells) trace → (x : Devices R W)
+      → AlongTrace (WorksAll view) trace x last → Ready t x → Counts t left cells trace
+  count_all slots zero t cells trace follows x works ready = record {
     bad = [];
     long = refl;
     are = tt;
-    put = subst (λ line. PutsAlone line story) same (put_alone (scrubbed_line t cells) story follows);
+    put = subst (λ line. PutsAlone line trace) same (put_alone (scrubbed_line t cells) trace follows);
   }
     where
       same : scrubbed_line t cells ≡ scrubbed_line (t + 0) (cells + 0)
       same = ap (λ n. scrubbed_line n cells) (omega arith) ∙ ap (scrubbed_line (t + 0)) (omega arith)
-  count_all slots (suc left) t cells story follows x works ready =
+  count_all slots (suc left) t cells trace follows x works ready =
       one (λ count rest follows y works ready. count_all slots left (t + 1) (cells + count) rest follows y works ready)
-      (step_first slots.n (ScrubStripe t) (λ count. scrubs slots (t + 1) left (cells + count)) story follows)
+      (step_first slots.n (ScrubStripe t) (λ count. scrubs slots (t + 1) left (cells + count)) trace follows)
     where
-      one : ((count : ℕ) (rest : List Deed) → IsDoneBy (scrubs slots (t + 1) left (cells + count)) rest → (y : Devices R W)
-          → Leads (WorksAll view) rest y last → Ready (t + 1) y → Counts (t + 1) left (cells + count) rest)
-          → StepFirst (ScrubStripe t) (λ count. scrubs slots (t + 1) left (cells + count)) story → Counts t (suc left) cells story
-      one behind step = taken step (subst (λ (l : List Deed). Leads (WorksAll view) l x last) step.is works)
+      one : ((count : ℕ) (rest : List TraceItem) → IsDoneBy (scrubs slots (t + 1) left (cells + count)) rest → (y : Devices R W)
+          → AlongTrace (WorksAll view) rest y last → Ready (t + 1) y → Counts (t + 1) left (cells + count) rest)
+          → StepFirst (ScrubStripe t) (λ count. scrubs slots (t + 1) left (cells + count)) trace → Counts t (suc left) cells trace
+      one behind step = taken step (subst (λ (l : List TraceItem). AlongTrace (WorksAll view) l x last) step.is works)
         where
-          taken : (step : StepFirst (ScrubStripe t) (λ count. scrubs slots (t + 1) left (cells + count)) story)
-              → Leads (WorksAll view) (Stepped (ScrubStripe t) (Ok step.given) step.events step.left ∷ step.rest) x last → Counts t (suc left) cells story
+          taken : (step : StepFirst (ScrubStripe t) (λ count. scrubs slots (t + 1) left (cells + count)) trace)
+              → AlongTrace (WorksAll view) (Stepped (ScrubStripe t) (Ok step.given) step.events step.left ∷ step.rest) x last → Counts t (suc left) cells trace
           taken step works =
               elim works.1.0 [
                 | inl does ↦
@@ -332,8 +332,8 @@ module _ {R W : Type 0} (view : DeviceView R W) (honest : IsTrue view.rack.hones
                   let never : Some stopped.fault ≡ None = sym stopped.stopped ∙ ap (λ (a : ArrayState). a.stopped) same ∙ ready.unstopped in
                   cc
 
-              joined : (step : StepFirst (ScrubStripe t) (λ count. scrubs slots (t + 1) left (cells + count)) story) (found : CellSet) → cell_count found ≡ step.given
-                  → AreBad g (view.rack.history first.rack) t found → Counts (t + 1) left (cells + step.given) step.rest → Counts t (suc left) cells story
+              joined : (step : StepFirst (ScrubStripe t) (λ count. scrubs slots (t + 1) left (cells + count)) trace) (found : CellSet) → cell_count found ≡ step.given
+                  → AreBad g (view.rack.history first.rack) t found → Counts (t + 1) left (cells + step.given) step.rest → Counts t (suc left) cells trace
               joined step found number are later = record {
                 bad = found ∷ later.bad;
                 long = ap suc later.long;
@@ -349,12 +349,12 @@ module _ {R W : Type 0} (view : DeviceView R W) (honest : IsTrue view.rack.hones
 same_line : (stripes cells : ℕ) → scrubbed_line (0 + stripes) (0 + cells) ≡ scrubbed_line stripes cells
 same_line stripes cells = ap (λ n. scrubbed_line n (0 + cells)) (omega arith) ∙ ap (scrubbed_line stripes) (omega arith)
 
-abbrev IsTold : State → List Happening → List Happening → List Deed → Type 0
-IsTold s first last story = (count : ℕ) × IsExact s.geometry first count × PutsAlone (scrubbed_line s.geometry.stripes count) story
+abbrev IsTold : State → List Happening → List Happening → List TraceItem → Type 0
+IsTold s first last trace = (count : ℕ) × IsExact s.geometry first count × PutsAlone (scrubbed_line s.geometry.stripes count) trace
 
 module _ {R W : Type 0} (view : DeviceView R W) (honest : IsTrue view.rack.honest) (s : State) (m : Membership) (g : Geometry) (events : List Event) (left : Bool)
-    (rest : List Deed) (x mid z y : Devices R W) (surveys : Surveys (Ok m) (told_of view.rack x.rack) (told_of view.rack mid.rack))
-    (is_found : mid.session ≡ Found m) (opens : WorksAll view (Stepped Recover (Ok g) events left) mid z) (works : Leads (WorksAll view) rest z y)
+    (rest : List TraceItem) (x mid z y : Devices R W) (surveys : Surveys (Ok m) (told_of view.rack x.rack) (told_of view.rack mid.rack))
+    (is_found : mid.session ≡ Found m) (opens : WorksAll view (Stepped Recover (Ok g) events left) mid z) (works : AlongTrace (WorksAll view) rest z y)
     (rack : IsUndisturbed s (view.rack.history x.rack) (view.rack.history y.rack)) where
   abbrev h_at : Devices R W → List Happening
   h_at d = view.rack.history d.rack
@@ -403,7 +403,7 @@ module _ {R W : Type 0} (view : DeviceView R W) (honest : IsTrue view.rack.hones
       ]
 
   was_found : performs.was ≡ unopened m
-  was_found = subst (λ (session : Session). StartsFrom Recover performs.was session) is_found performs.starts
+  was_found = subst (λ (session : Phase). StartsFrom Recover performs.was session) is_found performs.starts
 
   was_member : performs.was.member ≡ m
   was_member = ap (λ (a : ArrayState). a.member) was_found
@@ -414,19 +414,19 @@ module _ {R W : Type 0} (view : DeviceView R W) (honest : IsTrue view.rack.hones
   last : Membership
   last = performs.is.member
 
-  recovers : Recovers (Ok g) (point m (told_of view.rack mid.rack)) (point performs.is.member (told_of view.rack z.rack))
+  recovers : Recovers (Ok g) (snapshot m (told_of view.rack mid.rack)) (snapshot performs.is.member (told_of view.rack z.rack))
   recovers =
-      subst (λ (n : Membership). Recovers (Ok g) (point n (told_of view.rack mid.rack)) (point performs.is.member (told_of view.rack z.rack))) was_member
+      subst (λ (n : Membership). Recovers (Ok g) (snapshot n (told_of view.rack mid.rack)) (snapshot performs.is.member (told_of view.rack z.rack))) was_member
       performs.does
 
-  part : IsPart 1 (point m (told_of view.rack mid.rack)) (point performs.is.member (told_of view.rack z.rack))
-  part = recovered_part (Ok g) (point m (told_of view.rack mid.rack)) (point performs.is.member (told_of view.rack z.rack)) recovers rules
+  part : IsPart 1 (snapshot m (told_of view.rack mid.rack)) (snapshot performs.is.member (told_of view.rack z.rack))
+  part = recovered_part (Ok g) (snapshot m (told_of view.rack mid.rack)) (snapshot performs.is.member (told_of view.rack z.rack)) recovers rules
 
   last_geometry : performs.is.member.array.geometry ≡ s.geometry
   last_geometry = part.geometry ∙ geometry
 
   back : (j : ℕ) → IsLiveIn performs.is.member j → IsLiveIn m j
-  back j live = live_back 1 (point m (told_of view.rack mid.rack)) (point performs.is.member (told_of view.rack z.rack)) part j live
+  back j live = live_back 1 (snapshot m (told_of view.rack mid.rack)) (snapshot performs.is.member (told_of view.rack z.rack)) part j live
 
   -- a slot that was found live
   module _ (j : ℕ) (live : IsLiveIn m j) where
@@ -475,7 +475,7 @@ module _ {R W : Type 0} (view : DeviceView R W) (honest : IsTrue view.rack.hones
   cells_spared : (t i j : ℕ) → i < s.geometry.r → Spared j (cell_sector s.geometry t i) (h_at x) (h_at z)
   cells_spared t i j inside =
       ran_join (spared_asked j (cell_sector s.geometry t i) asked)
-      (opening_spares (Ok g) g (point m (told_of view.rack mid.rack)) (point performs.is.member (told_of view.rack z.rack)) recovers refl rules honest
+      (opening_spares (Ok g) g (snapshot m (told_of view.rack mid.rack)) (snapshot performs.is.member (told_of view.rack z.rack)) recovers refl rules honest
       (λ slot redo live h spared later. stays_closed slot live redo h spared later) j (cell_sector s.geometry t i) (omega arith)
       (gate_none s.geometry t i j inside closed_gate))
 
@@ -569,21 +569,21 @@ module _ {R W : Type 0} (view : DeviceView R W) (honest : IsTrue view.rack.hones
 -- ---- every call
 
 -- what was put out is held then
-line_held : {K : Type 0} (sink : SinkView K) (line : List ℕ) (story : List Deed) (x y : K) → PutsAlone line story → Leads (Holds sink) story x y
+line_held : {K : Type 0} (sink : SinkView K) (line : List ℕ) (trace : List TraceItem) (x y : K) → PutsAlone line trace → AlongTrace (Holds sink) trace x y
     → Appends (sink.held x) (sink.held y) line
 line_held sink line [] x y alone holds = absurd alone
-line_held sink line (HasPut bytes ∷ story) x y alone holds =
-    let end : y ≡ holds.0 = subst (λ (l : List Deed). Leads (Holds sink) l holds.0 y) alone.1 holds.2 in
+line_held sink line (HasPut bytes ∷ trace) x y alone holds =
+    let end : y ≡ holds.0 = subst (λ (l : List TraceItem). AlongTrace (Holds sink) l holds.0 y) alone.1 holds.2 in
     subst (λ (bytes : List ℕ). Appends (sink.held x) (sink.held y) bytes) alone.0
     (subst (λ k. Appends (sink.held x) (sink.held k) bytes) (sym end) holds.1.0)
-line_held sink line (PutFailed bytes ∷ story) x y alone holds = absurd alone
-line_held sink line (deed ∷ story) x y alone holds =
-    subst (λ k. Appends (sink.held k) (sink.held y) line) holds.1 (line_held sink line story holds.0 y alone holds.2)
+line_held sink line (PutFailed bytes ∷ trace) x y alone holds = absurd alone
+line_held sink line (item ∷ trace) x y alone holds =
+    subst (λ k. Appends (sink.held k) (sink.held y) line) holds.1 (line_held sink line trace holds.0 y alone holds.2)
 
 opened_told : {R W : Type 0} (view : DeviceView R W) (honest : IsTrue view.rack.honest) (s : State) (asked : Question) (m : Membership) (g : Geometry)
-    (events : List Event) (left : Bool) (rest : List Deed) (x y : Devices R W) → Leads (WorksAll view) (opened_story asked m g events left rest) x y
+    (events : List Event) (left : Bool) (rest : List TraceItem) (x y : Devices R W) → AlongTrace (WorksAll view) (opened_trace asked m g events left rest) x y
     → IsDoneBy (scrubs g 0 g.stripes 0) rest → IsUndisturbed s (view.rack.history x.rack) (view.rack.history y.rack)
-    → IsTold s (view.rack.history x.rack) (view.rack.history y.rack) (opened_story asked m g events left rest)
+    → IsTold s (view.rack.history x.rack) (view.rack.history y.rack) (opened_trace asked m g events left rest)
 opened_told view honest s question m g events left rest x y works follows rack =
     counted view honest s m g events left rest x works.2.2.0 works.2.2.2.2.0 y
     (subst (λ (d : Devices _ _). Surveys (Ok m) (told_of view.rack d.rack) (told_of view.rack works.2.2.0.rack)) (works.2.1 ∙ works.1) works.2.2.1.0)
@@ -594,13 +594,13 @@ opened_told view honest s question m g events left rest x y works follows rack =
 pub scrubs_are_counted : (R W S K : Type 0) → ScrubsAreCounted R W S K
 scrubs_are_counted R W S K view streams words status a b x y watchers left spells whole honest done s rack =
     let with = whole.with in
-    let opens = opens_first (λ g. scrubs g 0 g.stripes 0) words Scrub spells refl with.means.story
-    (subst (λ (t : Status). Leads Moves with.means.story (plan_of words) (Over t)) done with.means.follows) in
+    let opens = opens_first (λ g. scrubs g 0 g.stripes 0) words Scrub spells refl with.means.trace
+    (subst (λ (t : Status). AlongTrace StepsProgram with.means.trace (program_of words) (Over t)) done with.means.follows) in
     let told = opened_told view honest s opens.asked opens.member opens.g opens.events opens.left opens.rest (devices x Begun watchers)
-    (devices y whole.session left) (subst (λ (l : List Deed). Leads (WorksAll view) l (devices x Begun watchers) (devices y whole.session left)) opens.is with.works)
+    (devices y whole.session left) (subst (λ (l : List TraceItem). AlongTrace (WorksAll view) l (devices x Begun watchers) (devices y whole.session left)) opens.is with.works)
     opens.follows rack in (
       told.0,
       told.1,
-      line_held streams.sink (scrubbed_line s.geometry.stripes told.0) with.means.story a.sink b.sink
+      line_held streams.sink (scrubbed_line s.geometry.stripes told.0) with.means.trace a.sink b.sink
           (subst (PutsAlone (scrubbed_line s.geometry.stripes told.0)) (sym opens.is) told.2) with.means.bears.holds,
     )

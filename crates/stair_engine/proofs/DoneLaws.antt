@@ -1,4 +1,4 @@
--- Stories of an open array whose steps were all done: the array goes on, and a slot becomes live by a promotion alone.
+-- Traces of an open array whose steps were all done: the array goes on, and a slot becomes live by a promotion alone.
 use Rattle.std.proofs.Common.{◌≡◌, ◌≢◌, ◌∙◌, ◌⊎◌, ℕ, List, [], ◌∷◌, ◌++◌, Option, None, Some, Ok, Err, inl, inr, refl, sym, ap, subst, append_assoc}
 use Rattle.std.specs.Prelude.{Bool, ⊤}
 use Rattle.std.proofs.lemmas.Bool.{cases_eq}
@@ -9,60 +9,60 @@ use Rattle.stair_super.specs.declared.mark.Mark.TheVariants.{Down, Live, Rebuild
 use Rattle.stair_member.specs.Membership.{Membership}
 use Rattle.stair_member.specs.Seats.{Seat, Seats}
 use Rattle.stair_member.specs.declared.fault.FenceFault.{FenceFault}
-use Rattle.stair_session.specs.Returning.{Returning}
-use Rattle.stair_session.specs.SeatSteps.{MayDrop, SeatGoes}
-use Rattle.stair_session.specs.Session.{ArrayState, IsArray}
+use Rattle.stair_invariant.specs.Returning.{Returning}
+use Rattle.stair_invariant.specs.SeatSteps.{MayDrop, SeatGoes}
+use Rattle.stair_invariant.specs.Session.{ArrayState, IsArray}
 use Rattle.stair_state.specs.State.{State}
 use Rattle.stair_array.specs.Machine.{AreKnown, Answer, Chunk, Dropped, LookAtSeats, Nothing, Promoted, RebuildNext, Recover, Refusal, ReplaceSlot, SeatsAfter, Step}
 use Rattle.stair_array.specs.Promise.{BeginsWith, Ends, GoesOn, Keeps, Opened, Stops}
-use Rattle.stair_story.specs.Devices.{DeviceView, Devices, WorksAll}
-use Rattle.stair_story.specs.Run.{Goes, IsUpTo, Now, Runs}
-use Rattle.stair_story.specs.Sound.{HasDeed, IsPromotionOf}
-use Rattle.stair_story.specs.Story.{Deed, Found, Took, TookLast, TakeFailed, HasPut, PutFailed, Grew, RanOut, Did, Stepped, Leads}
-use Rattle.stair_story.proofs.KeptLaws.{same_session}
-use Rattle.stair_story.proofs.RunLaws.{upto_same}
+use Rattle.stair_command.specs.Devices.{DeviceView, Devices, WorksAll}
+use Rattle.stair_command.specs.Run.{Goes, IsUpTo, Now, Runs}
+use Rattle.stair_command.specs.Sound.{HasItem, IsPromotionOf}
+use Rattle.stair_command.specs.Trace.{TraceItem, Found, Took, TookLast, TakeFailed, HasPut, PutFailed, Grew, RanOut, Did, Stepped, AlongTrace}
+use Rattle.stair_command.proofs.KeptLaws.{same_session}
+use Rattle.stair_command.proofs.RunLaws.{upto_same}
 
--- ---- deeds
+-- ---- items
 
--- a step other than the opening, which was done, or a deed that is no step
-abbrev pub IsDoneDeed : Deed → Type 0
-IsDoneDeed (Stepped Recover answer events left) = ⊥
-IsDoneDeed (Stepped step (Ok given) events left) = ⊤
-IsDoneDeed (Stepped step (Err refusal) events left) = ⊥
-IsDoneDeed (Did action outcome) = ⊥
-IsDoneDeed _ = ⊤
+-- a step other than the opening, which was done, or an item that is no step
+abbrev pub IsDoneItem : TraceItem → Type 0
+IsDoneItem (Stepped Recover answer events left) = ⊥
+IsDoneItem (Stepped step (Ok given) events left) = ⊤
+IsDoneItem (Stepped step (Err refusal) events left) = ⊥
+IsDoneItem (Did action outcome) = ⊥
+IsDoneItem _ = ⊤
 
-abbrev pub AreDone : List Deed → Type 0
+abbrev pub AreDone : List TraceItem → Type 0
 AreDone [] = ⊤
-AreDone (deed ∷ story) = IsDoneDeed deed × AreDone story
+AreDone (item ∷ trace) = IsDoneItem item × AreDone trace
 
-pub done_join : (a b : List Deed) → AreDone a → AreDone b → AreDone (a ++ b)
+pub done_join : (a b : List TraceItem) → AreDone a → AreDone b → AreDone (a ++ b)
 done_join [] b first second = second
-done_join (deed ∷ a) b first second = (first.0, done_join a b first.1 second)
+done_join (item ∷ a) b first second = (first.0, done_join a b first.1 second)
 
-pub has_later : (IsSo : Deed → Type 0) (a b : List Deed) → HasDeed IsSo b → HasDeed IsSo (a ++ b)
+pub has_later : (IsSo : TraceItem → Type 0) (a b : List TraceItem) → HasItem IsSo b → HasItem IsSo (a ++ b)
 has_later IsSo [] b has = has
-has_later IsSo (deed ∷ a) b has = inr (has_later IsSo a b has)
+has_later IsSo (item ∷ a) b has = inr (has_later IsSo a b has)
 
 module _ (events : List Event) (left : Bool) where
-  not_opening : (step : Step) (answer : Answer step) → IsDoneDeed (Stepped step answer events left) → step ≡ Recover → ⊥
+  not_opening : (step : Step) (answer : Answer step) → IsDoneItem (Stepped step answer events left) → step ≡ Recover → ⊥
   not_opening Recover answer done is = done
   not_opening _ answer done is = let same = is in cc
 
-  never_again : (step : Step) (answer : Answer step) (refusal : Refusal) → IsDoneDeed (Stepped step answer events left) → answer ≡ Err refusal → ⊥
-  never_again step answer refusal done is = by step (subst (λ (a : Answer step). IsDoneDeed (Stepped step a events left)) is done)
+  never_again : (step : Step) (answer : Answer step) (refusal : Refusal) → IsDoneItem (Stepped step answer events left) → answer ≡ Err refusal → ⊥
+  never_again step answer refusal done is = by step (subst (λ (a : Answer step). IsDoneItem (Stepped step a events left)) is done)
     where
-      by : (step : Step) → IsDoneDeed (Stepped step (Err refusal) events left) → ⊥
+      by : (step : Step) → IsDoneItem (Stepped step (Err refusal) events left) → ⊥
       by Recover done = done
       by _ done = done
 
-  keeps_none : (step : Step) (answer : Answer step) (kept : Option FenceFault) → IsDoneDeed (Stepped step answer events left) → Keeps answer kept
+  keeps_none : (step : Step) (answer : Answer step) (kept : Option FenceFault) → IsDoneItem (Stepped step answer events left) → Keeps answer kept
       → kept ≡ None
   keeps_none Recover answer kept done keeps = absurd done
   keeps_none step (Ok given) kept done keeps = keeps
   keeps_none step (Err refusal) kept done keeps = absurd (never_again step (Err refusal) refusal done refl)
 
-  never_stops : (step : Step) (answer : Answer step) → IsDoneDeed (Stepped step answer events left) → ¬ Stops answer
+  never_stops : (step : Step) (answer : Answer step) → IsDoneItem (Stepped step answer events left) → ¬ Stops answer
   never_stops Recover answer done stops = done
   never_stops step (Ok given) done stops = stops
   never_stops step (Err refusal) done stops = never_again step (Err refusal) refusal done refl
@@ -77,7 +77,7 @@ pub record GoesOnOpen {R W : Type 0} (y : Devices R W) : Type 0 where
   pub array : IsArray last
 
 module _ {R W : Type 0} (view : DeviceView R W) where
-  one_open : (deed : Deed) (x y : Devices R W) → WorksAll view deed x y → IsDoneDeed deed → GoesOnOpen x → GoesOnOpen y
+  one_open : (item : TraceItem) (x y : Devices R W) → WorksAll view item x y → IsDoneItem item → GoesOnOpen x → GoesOnOpen y
   one_open (Stepped step answer events left) x y works done was =
       elim works.0 [
         | inl does ↦
@@ -94,12 +94,12 @@ module _ {R W : Type 0} (view : DeviceView R W) where
         | inr again ↦ absurd (never_again events left step answer _ done again.answered)
       ]
   one_open (Did action outcome) x y works done was = absurd done
-  one_open deed x y works done was = record { last = was.last; opened = same_session view works ∙ was.opened; unstopped = was.unstopped; array = was.array }
+  one_open item x y works done was = record { last = was.last; opened = same_session view works ∙ was.opened; unstopped = was.unstopped; array = was.array }
 
-  pub stays_open : (story : List Deed) (x y : Devices R W) → Leads (WorksAll view) story x y → AreDone story → GoesOnOpen x → GoesOnOpen y
+  pub stays_open : (trace : List TraceItem) (x y : Devices R W) → AlongTrace (WorksAll view) trace x y → AreDone trace → GoesOnOpen x → GoesOnOpen y
   stays_open [] x y works done was =
       record { last = was.last; opened = same_session view works ∙ was.opened; unstopped = was.unstopped; array = was.array }
-  stays_open (deed ∷ story) x y works done was = stays_open story works.0 y works.2 done.1 (one_open deed x works.0 works.1 done.0 was)
+  stays_open (item ∷ trace) x y works done was = stays_open trace works.0 y works.2 done.1 (one_open item x works.0 works.1 done.0 was)
 
 -- ---- seats
 
@@ -116,10 +116,10 @@ goes_dead slot j from to old new goes other dead =
     ]
 
 module _ (events : List Event) (left : Bool) (j : ℕ) where
-  abbrev IsPromotedOrDead : Deed → Seats → Type 0
-  IsPromotedOrDead deed seats = IsPromotionOf j deed ⊎ ((seats j).mark ≢ Live)
+  abbrev IsPromotedOrDead : TraceItem → Seats → Type 0
+  IsPromotedOrDead item seats = IsPromotionOf j item ⊎ ((seats j).mark ≢ Live)
 
-  step_seats : (step : Step) (answer : Answer step) (old new : Seats) → IsDoneDeed (Stepped step answer events left) → SeatsAfter step answer old new
+  step_seats : (step : Step) (answer : Answer step) (old new : Seats) → IsDoneItem (Stepped step answer events left) → SeatsAfter step answer old new
       → (old j).mark ≢ Live → IsPromotedOrDead (Stepped step answer events left) new
   step_seats Recover answer old new done marks dead = absurd done
   step_seats RebuildNext (Ok Nothing) old new done marks dead = inr (drop_dead (old j) (new j) (marks.1 j) dead)
@@ -141,7 +141,7 @@ begins_known returning Recover m before h s begun other begins = absurd (other r
 begins_known returning _ m before h s begun other begins = begins
 
 known_then : (events : List Event) (left : Bool) (step : Step) (answer : Answer step) (known : Option Seats) (seats : Seats)
-    → IsDoneDeed (Stepped step answer events left) → AreKnown step answer known seats → known ≡ Some seats
+    → IsDoneItem (Stepped step answer events left) → AreKnown step answer known seats → known ≡ Some seats
 known_then events left Recover answer known seats done are = absurd done
 known_then events left _ answer known seats done are = are
 
@@ -149,17 +149,17 @@ some_once : (a b : Seats) (known : Option Seats) → known ≡ Some a → known 
 some_once a b known is also = let both : Some a ≡ Some b = sym is ∙ also in let same : a ≡ b = cc in same
 
 module _ (returning : Returning) (before : List Happening) (j : ℕ) where
-  -- the seats after a deed, and that the slot is promoted by it or isn't live still
-  pub record SeatsThen (deed : Deed) (new : Now) : Type 0 where
+  -- the seats after an item, and that the slot is promoted by it or isn't live still
+  pub record SeatsThen (item : TraceItem) (new : Now) : Type 0 where
     pub seats : Seats
     pub known : new.state.seats ≡ Some seats
-    pub so : IsPromotionOf j deed ⊎ ((seats j).mark ≢ Live)
+    pub so : IsPromotionOf j item ⊎ ((seats j).mark ≢ Live)
 
-  same_seats : (deed : Deed) (old new : Now) (a : Seats) → new ≡ old → old.state.seats ≡ Some a → (a j).mark ≢ Live → SeatsThen deed new
-  same_seats deed old new a same known dead = record { seats = a; known = ap (λ (n : Now). n.state.seats) same ∙ known; so = inr dead }
+  same_seats : (item : TraceItem) (old new : Now) (a : Seats) → new ≡ old → old.state.seats ≡ Some a → (a j).mark ≢ Live → SeatsThen item new
+  same_seats item old new a same known dead = record { seats = a; known = ap (λ (n : Now). n.state.seats) same ∙ known; so = inr dead }
 
-  one_seats : (deed : Deed) (old new : Now) (a : Seats) → IsDoneDeed deed → Goes returning before deed old new → old.state.seats ≡ Some a → (a j).mark ≢ Live
-      → SeatsThen deed new
+  one_seats : (item : TraceItem) (old new : Now) (a : Seats) → IsDoneItem item → Goes returning before item old new → old.state.seats ≡ Some a → (a j).mark ≢ Live
+      → SeatsThen item new
   one_seats (Stepped step answer events left) old new a done (inl taken) known dead =
       let row = taken.is_step.row in
       let begun = begins_known returning step taken.member before new.history old.state taken.is_step.begun (not_opening events left step answer done) taken.is_step.begins in
@@ -181,16 +181,16 @@ module _ (returning : Returning) (before : List Happening) (j : ℕ) where
   one_seats RanOut old new a done goes known dead = same_seats RanOut old new a goes known dead
 
   -- a slot that is live at the end of such a run, and wasn't as it began, was promoted
-  pub run_promoted : (story : List Deed) (old new : Now) (a b : Seats) → AreDone story → Runs returning before story old new → old.state.seats ≡ Some a
-      → new.state.seats ≡ Some b → (a j).mark ≢ Live → (b j).mark ≡ Live → HasDeed (IsPromotionOf j) story
+  pub run_promoted : (trace : List TraceItem) (old new : Now) (a b : Seats) → AreDone trace → Runs returning before trace old new → old.state.seats ≡ Some a
+      → new.state.seats ≡ Some b → (a j).mark ≢ Live → (b j).mark ≡ Live → HasItem (IsPromotionOf j) trace
   run_promoted [] old new a b done runs known ends dead live =
       let same : b ≡ a = some_once b a new.state.seats ends (ap (λ (n : Now). n.state.seats) runs ∙ known) in
       dead (subst (λ (s : Seats). (s j).mark ≡ Live) same live)
-  run_promoted (deed ∷ story) old new a b done runs known ends dead live =
-      let one = one_seats deed old runs.0 a done.0 runs.1 known dead in
+  run_promoted (item ∷ trace) old new a b done runs known ends dead live =
+      let one = one_seats item old runs.0 a done.0 runs.1 known dead in
       elim one.so [
         | inl promoted ↦ inl promoted
-        | inr still ↦ inr (run_promoted story runs.0 new one.seats b done.1 runs.2 one.known ends still live)
+        | inr still ↦ inr (run_promoted trace runs.0 new one.seats b done.1 runs.2 one.known ends still live)
       ]
 
 -- ---- histories
@@ -206,7 +206,7 @@ upto_join {a} {b} {c} first second = record {
 upto_equal : (old new : Now) → new ≡ old → IsUpTo old.history new.history
 upto_equal old new same = subst (λ (n : Now). IsUpTo old.history n.history) (sym same) (upto_same old.history)
 
-one_upto : (returning : Returning) (before : List Happening) (deed : Deed) (old new : Now) → Goes returning before deed old new → IsUpTo old.history new.history
+one_upto : (returning : Returning) (before : List Happening) (item : TraceItem) (old new : Now) → Goes returning before item old new → IsUpTo old.history new.history
 one_upto returning before (Stepped step answer events left) old new (inl taken) = taken.later
 one_upto returning before (Stepped step answer events left) old new (inr again) = upto_equal old new again.same
 one_upto returning before (Did action outcome) old new goes = goes.later
@@ -220,7 +220,7 @@ one_upto returning before Grew old new goes = upto_equal old new goes
 one_upto returning before RanOut old new goes = upto_equal old new goes
 
 -- what has happened goes on over a run
-pub runs_upto : (returning : Returning) (before : List Happening) (story : List Deed) (old new : Now) → Runs returning before story old new → IsUpTo old.history new.history
+pub runs_upto : (returning : Returning) (before : List Happening) (trace : List TraceItem) (old new : Now) → Runs returning before trace old new → IsUpTo old.history new.history
 runs_upto returning before [] old new runs = upto_equal old new runs
-runs_upto returning before (deed ∷ story) old new runs =
-    upto_join (one_upto returning before deed old runs.0 runs.1) (runs_upto returning before story runs.0 new runs.2)
+runs_upto returning before (item ∷ trace) old new runs =
+    upto_join (one_upto returning before item old runs.0 runs.1) (runs_upto returning before trace runs.0 new runs.2)

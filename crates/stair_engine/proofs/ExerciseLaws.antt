@@ -1,10 +1,10 @@
--- What the plan of `exercise` does by itself.
+-- What the program of `exercise` does by itself.
 use Rattle.std.proofs.Common.{◌≡◌, ◌+◌, ◌==◌, ℕ, zero, suc, Bool, true, false, nat_lt, List, refl, arith}
 use Rattle.stair_model.specs.Geometry.{Geometry}
 use Rattle.stair_array.specs.Draws.{allowance}
 use Rattle.stair_array.specs.Machine.{Answer, GivenBy, ReadBlock, ScrubStripe, Step, WriteBlocks}
-use Rattle.stair_story.specs.Ending.{AdmitsNone, AllowsAtMost, AsksForNone, EachStep, EndsIn, PutsLast, TakesNothing}
-use Rattle.stair_story.specs.Plan.{Plan, Over, Put, Try, take_step}
+use Rattle.stair_command.specs.Ending.{AdmitsNone, AllowsAtMost, AsksForNone, EachStep, EndsIn, PutsLast, TakesNothing}
+use Rattle.stair_command.specs.Program.{Program, Over, Put, Try, take_step}
 use Rattle.stair_status.specs.declared.status.Status.{Status}
 use Rattle.stair_status.specs.declared.status.Status.TheVariants.{Done, OutOfRange}
 use Rattle.stair_engine.specs.declared.exercise.Exercised.{Exercised}
@@ -12,37 +12,37 @@ use Rattle.stair_engine.specs.Exercise.{exercise_steps, exercised_line, exercise
 use Rattle.stair_engine.proofs.LineLaws.{IsOfLine}
 use Rattle.stair_engine.proofs.OpenLaws.{IsOfJob, left_so, refusal_own, unless_so}
 
--- What is so of the plan, where it is so of each node of it by what comes after. Its steps admit no medium, and no draw is allowed
+-- What is so of the program, where it is so of each node of it by what comes after. Its steps admit no medium, and no draw is allowed
 -- them.
-record IsOfSteps (IsSo : Plan → Type 0) : Type 0 where
+record IsOfSteps (IsSo : Program → Type 0) : Type 0 where
   ends : (status : Status) → IsOfLine status → IsSo (Over status)
   tells : (bytes : List ℕ) → IsSo (Put bytes (Over Done))
-  tries : (step : Step) → AdmitsNone step → allowance step ≡ 0 → (k : Answer step → Bool → Plan)
+  tries : (step : Step) → AdmitsNone step → allowance step ≡ 0 → (k : Answer step → Bool → Program)
       → ((answer : Answer step) (left : Bool) → IsSo (k answer left)) → IsSo (Try step k)
 
-module _ (IsSo : Plan → Type 0) (nodes : IsOfSteps IsSo) where
-  tried_so : (slots : ℕ) (step : Step) → AdmitsNone step → allowance step ≡ 0 → (k : GivenBy step → Plan)
+module _ (IsSo : Program → Type 0) (nodes : IsOfSteps IsSo) where
+  tried_so : (slots : ℕ) (step : Step) → AdmitsNone step → allowance step ≡ 0 → (k : GivenBy step → Program)
       → ((given : GivenBy step) → IsSo (k given)) → IsSo (take_step slots step k)
   tried_so slots step none free k behind =
       nodes.tries step none free _ (unless_so IsSo slots (λ given left. k given) (λ given left. behind given)
       (λ refusal. nodes.ends _ (refusal_own slots refusal)))
 
-  one_so : (g : Geometry) (x : ℕ) (so_far : Exercised) (k : Exercised → Plan) → ((came : Exercised) → IsSo (k came)) → IsSo (step_one g x so_far k)
+  one_so : (g : Geometry) (x : ℕ) (so_far : Exercised) (k : Exercised → Program) → ((came : Exercised) → IsSo (k came)) → IsSo (step_one g x so_far k)
   one_so g x so_far k behind =
       left_so IsSo _ _ (tried_so g.n (ScrubStripe _) tt refl _ (λ cells. behind _))
       (left_so IsSo _ _ (tried_so g.n (ReadBlock _) tt refl _ (λ contents. behind _))
       (tried_so g.n (WriteBlocks _ _) tt refl _ (λ done. behind _)) (nat_lt (kind_of x) 4)) (kind_of x == 0)
 
-  exercises_so : (g : Geometry) (left x : ℕ) (so_far : Exercised) (k : Exercised → Plan) → ((came : Exercised) → IsSo (k came))
+  exercises_so : (g : Geometry) (left x : ℕ) (so_far : Exercised) (k : Exercised → Program) → ((came : Exercised) → IsSo (k came))
       → IsSo (exercises g left x so_far k)
   exercises_so g zero x so_far k behind = behind so_far
   exercises_so g (suc left) x so_far k behind =
       one_so g (next_number x) so_far (λ later. exercises g left (next_number x) later k)
       (λ later. exercises_so g left (next_number x) later k behind)
 
-  few_so : (count : ℕ) (plan : Plan) → IsSo plan → (few : Bool) → IsSo (if_few count few plan)
-  few_so count plan so true = so
-  few_so count plan so false = nodes.ends (OutOfRange count (most_steps + 1)) (((λ is. cc, λ is. cc), λ is. cc), λ is. cc)
+  few_so : (count : ℕ) (program : Program) → IsSo program → (few : Bool) → IsSo (if_few count few program)
+  few_so count program so true = so
+  few_so count program so false = nodes.ends (OutOfRange count (most_steps + 1)) (((λ is. cc, λ is. cc), λ is. cc), λ is. cc)
 
   exercise_so : (number count : ℕ) (g : Geometry) → IsSo (exercise_steps number count g)
   exercise_so number count g =

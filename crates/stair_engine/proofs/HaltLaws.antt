@@ -1,4 +1,4 @@
--- Where a guarded script is halted: its story beside the plan of one that isn't guarded.
+-- Where a guarded script is halted: its trace beside the program of one that isn't guarded.
 use Rattle.std.proofs.Common.{◌≡◌, ◌∙◌, ◌⊎◌, inl, inr, ◌+◌, ◌≤◌, ◌++◌, ℕ, zero, suc, Bool, true, false, nat_lt, List, [], ◌∷◌, All, Option, None, Some, Ok, Err, ap, arith, length, refl, subst, sym}
 use Rattle.std.specs.Prelude.{◌||◌}
 use Rattle.std.proofs.lemmas.Bool.Decides.{nat_tests}
@@ -16,104 +16,104 @@ use Rattle.stair_rack.specs.Watching.{WatcherView}
 use Rattle.stair_rack.specs.declared.watcher.Event.{Event}
 use Rattle.stair_script.specs.declared.line.Line.{Line}
 use Rattle.stair_script.specs.declared.line.Line.TheVariants.{Blank, Read, Write, Scrub, Replace, Rebuild}
-use Rattle.stair_story.specs.Action.{Create, OkOf, Outcome, RefusalOf, Survey, refused, status_of_survey}
-use Rattle.stair_story.specs.Devices.{DeviceView, Devices, WorksAll, some_left}
-use Rattle.stair_story.specs.Plan.{Plan, Over, Ask, Take, Put, Allocate, Do, Try, RebuildAll, if_so, watch_step}
-use Rattle.stair_story.specs.Question.{Costs, IsReply, Judgement, Limits, EventLine, Question, Reply, ScriptLine, Text, Words}
-use Rattle.stair_story.specs.Refused.{status_of_refusal}
-use Rattle.stair_story.specs.Story.{Deed, Did, Found, Grew, HasPut, Leads, Moves, PutFailed, RanOut, Stepped, TakeFailed, Took, TookLast, after, events_of_story}
-use Rattle.stair_story.specs.Texts.{SCRIPT_LIMIT, ends_line}
+use Rattle.stair_command.specs.Action.{Create, OkOf, Outcome, RefusalOf, Survey, refused, status_of_survey}
+use Rattle.stair_command.specs.Devices.{DeviceView, Devices, WorksAll, some_left}
+use Rattle.stair_command.specs.Program.{Program, Over, Ask, Take, Put, Allocate, Do, Try, RebuildAll, if_so, watch_step}
+use Rattle.stair_command.specs.Question.{Costs, IsReply, Judgement, Limits, EventLine, Question, Reply, ScriptLine, Text, Words}
+use Rattle.stair_command.specs.Refused.{status_of_refusal}
+use Rattle.stair_command.specs.Trace.{TraceItem, Did, Found, Grew, HasPut, AlongTrace, StepsProgram, PutFailed, RanOut, Stepped, TakeFailed, Took, TookLast, after, events_of_trace}
+use Rattle.stair_command.specs.Texts.{SCRIPT_LIMIT, ends_line}
 use Rattle.stair_status.specs.declared.status.Status.{Status}
 use Rattle.stair_status.specs.declared.status.Status.TheVariants.{Done, Halted, InputFault, OutOfMemory, OutOfRange, OutputFault}
-use Rattle.stair_story.proofs.DeviceLaws.{are_told}
-use Rattle.stair_story.proofs.EndLaws.{no_move}
+use Rattle.stair_command.proofs.DeviceLaws.{are_told}
+use Rattle.stair_command.proofs.EndLaws.{no_move}
 use Rattle.stair_watch.specs.WatcherList.{AllStay, AreLeft, GoesOn}
-use Rattle.stair_engine.specs.Halts.{AllAreAnswered, EndsGuarded, IsBehindLine, halt_line, unguarded, unguarded_plan}
+use Rattle.stair_engine.specs.Halts.{AllAreAnswered, EndsGuarded, IsBehindLine, halt_line, unguarded, unguarded_program}
 use Rattle.stair_engine.specs.Laws.{GuardsHalt}
 use Rattle.stair_engine.specs.Mending.{if_slot, rebuilt_line}
-use Rattle.stair_engine.specs.Plans.{if_spelled, plan_of}
-use Rattle.stair_engine.specs.Scripts.{LINE_LIMIT, admitted_reply, all_lines, does_line, if_halted, if_line, if_nothing, if_stripe, last_line, line_plan, lines, read_reply, script_plan, scrubbed_reply, some_rebuilds, wrote_reply}
+use Rattle.stair_engine.specs.Programs.{if_spelled, program_of}
+use Rattle.stair_engine.specs.Scripts.{MAX_SCRIPT_LINE, admitted_reply, all_lines, does_line, if_halted, if_line, if_nothing, if_stripe, last_line, line_program, lines, read_reply, script_program, scrubbed_reply, some_rebuilds, wrote_reply}
 
 -- a status that no halt is
 abbrev IsNoHalt : Status → Type 0
 IsNoHalt status = (number : ℕ) → status ≡ Halted number → ⊥
 
--- ---- plans beside one another
+-- ---- programs beside one another
 
 -- how many lines came once this was decided
 abbrev line_after : Question → ℕ → ℕ
 line_after (ScriptLine line) number = number + 1
 line_after question number = number
 
--- The one plan is guarded, and the other isn't: so many lines came, and a watcher left at the last of them, or none did. They go the same
+-- The one program is guarded, and the other isn't: so many lines came, and a watcher left at the last of them, or none did. They go the same
 -- way up to where the one is halted, and the other is after that line.
-abbrev Beside : (number : ℕ) (gone : Bool) → Plan → Plan → Type 0
+abbrev Beside : (number : ℕ) (gone : Bool) → Program → Program → Type 0
 Beside number gone (Over status) other =
     ((other ≡ Over status) × IsNoHalt status × (gone ≡ false)) ⊎ ((status ≡ Halted number) × (gone ≡ true) × IsBehindLine number other)
 Beside number gone (Ask question k) other =
-    (j : Reply question → Plan) × (other ≡ Ask question j) × (gone ≡ false)
+    (j : Reply question → Program) × (other ≡ Ask question j) × (gone ≡ false)
     × ((reply : Reply question) → IsReply question reply → Beside (line_after question number) gone (k reply) (j reply))
 Beside number gone (Take least most k short) other =
-    (j : List ℕ → Plan) × (fewer : List ℕ → Plan) × (other ≡ Take least most j fewer) × (gone ≡ false)
+    (j : List ℕ → Program) × (fewer : List ℕ → Program) × (other ≡ Take least most j fewer) × (gone ≡ false)
     × ((bytes : List ℕ) → Beside number gone (k bytes) (j bytes)) × ((bytes : List ℕ) → Beside number gone (short bytes) (fewer bytes))
-Beside number gone (Put bytes plan) other = (rest : Plan) × (other ≡ Put bytes rest) × Beside number gone plan rest
-Beside number gone (Allocate plan) other = (rest : Plan) × (other ≡ Allocate rest) × (gone ≡ false) × Beside number gone plan rest
+Beside number gone (Put bytes program) other = (rest : Program) × (other ≡ Put bytes rest) × Beside number gone program rest
+Beside number gone (Allocate program) other = (rest : Program) × (other ≡ Allocate rest) × (gone ≡ false) × Beside number gone program rest
 Beside number gone (Do action k) other =
-    (j : OkOf action → Plan) × (other ≡ Do action j) × (gone ≡ false) × ((done : OkOf action) → Beside number gone (k done) (j done))
+    (j : OkOf action → Program) × (other ≡ Do action j) × (gone ≡ false) × ((done : OkOf action) → Beside number gone (k done) (j done))
     × ((refusal : RefusalOf action) → IsNoHalt (refused action refusal))
 Beside number gone (Try step k) other =
-    (j : Answer step → Bool → Plan) × (other ≡ Try step j)
+    (j : Answer step → Bool → Program) × (other ≡ Try step j)
     × ((given : GivenBy step) (left : Bool) → Beside number (gone || left) (k (Ok given) left) (j (Ok given) left))
     × ((refusal : Refusal) (left : Bool) → (status : Status) × (k (Err refusal) left ≡ Over status) × (j (Err refusal) left ≡ Over status) × IsNoHalt status)
 Beside number gone (RebuildAll slots done k) other = ⊥
 
--- ---- stories
+-- ---- traces
 
 -- the line at which a watcher left, the last one so far or a later one
-abbrev halt_of : Bool → ℕ → List Deed → Option ℕ
-halt_of true number story = Some number
-halt_of false number story = halt_line number story
+abbrev halt_of : Bool → ℕ → List TraceItem → Option ℕ
+halt_of true number trace = Some number
+halt_of false number trace = halt_line number trace
 
--- What came of the story of the one, and of the other.
-abbrev Ended : (number : ℕ) (gone : Bool) → List Deed → Status → Plan → Type 0
-Ended number gone story status other =
-    (IsNoHalt status × Leads Moves story other (Over status) × (AllAreAnswered story → halt_of gone number story ≡ None))
-    ⊎ ((at : ℕ) × (status ≡ Halted at) × (halt_of gone number story ≡ Some at) × AllAreAnswered story
-    × (rest : Plan) × Leads Moves story other rest × IsBehindLine at rest)
+-- What came of the trace of the one, and of the other.
+abbrev Ended : (number : ℕ) (gone : Bool) → List TraceItem → Status → Program → Type 0
+Ended number gone trace status other =
+    (IsNoHalt status × AlongTrace StepsProgram trace other (Over status) × (AllAreAnswered trace → halt_of gone number trace ≡ None))
+    ⊎ ((at : ℕ) × (status ≡ Halted at) × (halt_of gone number trace ≡ Some at) × AllAreAnswered trace
+    × (rest : Program) × AlongTrace StepsProgram trace other rest × IsBehindLine at rest)
 
-module _ (number next : ℕ) (gone left : Bool) (deed : Deed) (story : List Deed) (status : Status) (other rest : Plan) (moves : Moves deed other rest)
-    (halts : halt_of gone number (deed ∷ story) ≡ halt_of left next story) (answered : AllAreAnswered (deed ∷ story) → AllAreAnswered story)
-    (also : AllAreAnswered story → AllAreAnswered (deed ∷ story)) where
-  -- one deed, and what came after it
-  behind_deed : Ended next left story status rest → Ended number gone (deed ∷ story) status other
-  behind_deed (inl own) = inl (own.0, (rest, moves, own.1), λ all. halts ∙ own.2 (answered all))
-  behind_deed (inr halted) =
+module _ (number next : ℕ) (gone left : Bool) (item : TraceItem) (trace : List TraceItem) (status : Status) (other rest : Program) (moves : StepsProgram item other rest)
+    (halts : halt_of gone number (item ∷ trace) ≡ halt_of left next trace) (answered : AllAreAnswered (item ∷ trace) → AllAreAnswered trace)
+    (also : AllAreAnswered trace → AllAreAnswered (item ∷ trace)) where
+  -- one item, and what came after it
+  behind_item : Ended next left trace status rest → Ended number gone (item ∷ trace) status other
+  behind_item (inl own) = inl (own.0, (rest, moves, own.1), λ all. halts ∙ own.2 (answered all))
+  behind_item (inr halted) =
       inr (halted.0, halted.1, halts ∙ halted.2, also halted.3, halted.4, (rest, moves, halted.5), halted.6)
 
--- a plan that is over ends the story
-over_ends : (story : List Deed) (status : Status) (rest : Plan) → Leads Moves story (Over status) rest → (story ≡ []) × (rest ≡ Over status)
+-- a program that is over ends the trace
+over_ends : (trace : List TraceItem) (status : Status) (rest : Program) → AlongTrace StepsProgram trace (Over status) rest → (trace ≡ []) × (rest ≡ Over status)
 over_ends [] status rest follows = (refl, follows)
-over_ends (deed ∷ story) status rest follows = absurd (no_move deed status follows.0 follows.1)
+over_ends (item ∷ trace) status rest follows = absurd (no_move item status follows.0 follows.1)
 
--- So it does at a deed by which the call ends.
-module _ (number : ℕ) (gone : Bool) (deed : Deed) (story : List Deed) (end status : Status) (other : Plan) (none : IsNoHalt end)
-    (moves : Moves deed other (Over end)) (unless : AllAreAnswered (deed ∷ []) → halt_of gone number (deed ∷ []) ≡ None) where
-  ended_by : Leads Moves story (Over end) (Over status) → Ended number gone (deed ∷ story) status other
+-- So it does at an item by which the call ends.
+module _ (number : ℕ) (gone : Bool) (item : TraceItem) (trace : List TraceItem) (end status : Status) (other : Program) (none : IsNoHalt end)
+    (moves : StepsProgram item other (Over end)) (unless : AllAreAnswered (item ∷ []) → halt_of gone number (item ∷ []) ≡ None) where
+  ended_by : AlongTrace StepsProgram trace (Over end) (Over status) → Ended number gone (item ∷ trace) status other
   ended_by follows =
-      let over = over_ends story end (Over status) follows in
+      let over = over_ends trace end (Over status) follows in
       let same : status ≡ end = let both = over.1 in cc in
-      subst (λ (rest : List Deed). Ended number gone (deed ∷ rest) status other) (sym over.0)
-      (subst (λ (s : Status). Ended number gone (deed ∷ []) s other) (sym same) (inl (none, (Over end, moves, refl), unless)))
+      subst (λ (rest : List TraceItem). Ended number gone (item ∷ rest) status other) (sym over.0)
+      (subst (λ (s : Status). Ended number gone (item ∷ []) s other) (sym same) (inl (none, (Over end, moves, refl), unless)))
 
-found_number : (question : Question) (number : ℕ) (story : List Deed)
-    → halt_line number (Found question ∷ story) ≡ halt_line (line_after question number) story
-found_number (ScriptLine line) number story = refl
-found_number (Words words) number story = refl
-found_number (Limits g) number story = refl
-found_number (Text text) number story = refl
-found_number (Judgement command g input) number story = refl
-found_number (EventLine line) number story = refl
-found_number (Costs g) number story = refl
+found_number : (question : Question) (number : ℕ) (trace : List TraceItem)
+    → halt_line number (Found question ∷ trace) ≡ halt_line (line_after question number) trace
+found_number (ScriptLine line) number trace = refl
+found_number (Words words) number trace = refl
+found_number (Limits g) number trace = refl
+found_number (Text text) number trace = refl
+found_number (Judgement command g input) number trace = refl
+found_number (EventLine line) number trace = refl
+found_number (Costs g) number trace = refl
 
 no_halt_input : IsNoHalt InputFault
 no_halt_input number is = cc
@@ -124,109 +124,109 @@ no_halt_output number is = cc
 no_halt_memory : IsNoHalt OutOfMemory
 no_halt_memory number is = cc
 
-stepped_halt : (step : Step) (answer : Answer step) (events : List Event) (gone left : Bool) (number : ℕ) (story : List Deed)
-    → halt_of gone number (Stepped step answer events left ∷ story) ≡ halt_of (gone || left) number story
-stepped_halt step answer events true left number story = refl
-stepped_halt step answer events false true number story = refl
-stepped_halt step answer events false false number story = refl
+stepped_halt : (step : Step) (answer : Answer step) (events : List Event) (gone left : Bool) (number : ℕ) (trace : List TraceItem)
+    → halt_of gone number (Stepped step answer events left ∷ trace) ≡ halt_of (gone || left) number trace
+stepped_halt step answer events true left number trace = refl
+stepped_halt step answer events false true number trace = refl
+stepped_halt step answer events false false number trace = refl
 
-ends : (story : List Deed) (plan other : Plan) (status : Status) (number : ℕ) (gone : Bool) → Beside number gone plan other
-    → Leads Moves story plan (Over status) → Ended number gone story status other
-ends [] plan other status number gone beside follows = by (subst (λ (p : Plan). Beside number gone p other) (sym follows) beside)
+ends : (trace : List TraceItem) (program other : Program) (status : Status) (number : ℕ) (gone : Bool) → Beside number gone program other
+    → AlongTrace StepsProgram trace program (Over status) → Ended number gone trace status other
+ends [] program other status number gone beside follows = by (subst (λ (p : Program). Beside number gone p other) (sym follows) beside)
   where
     by : Beside number gone (Over status) other → Ended number gone [] status other
     by (inl own) = inl (own.1, sym own.0, λ all. ap (λ (g : Bool). halt_of g number []) own.2)
     by (inr halted) = inr (number, halted.0, ap (λ (g : Bool). halt_of g number []) halted.1, tt, other, refl, halted.2)
-ends (Found asked ∷ story) (Ask question k) other status number gone beside follows =
+ends (Found asked ∷ trace) (Ask question k) other status number gone beside follows =
     let move = follows.1 in
     let reply = move.0 in
-    let later : Leads Moves story (k reply) (Over status) = subst (λ (p : Plan). Leads Moves story p (Over status)) move.3 follows.2 in
-    let halts : halt_of gone number (Found asked ∷ story) ≡ halt_of gone (line_after question number) story =
-    subst (λ (g : Bool). halt_of g number (Found asked ∷ story) ≡ halt_of g (line_after question number) story) (sym beside.2)
-    (ap (λ (q : Question). halt_line number (Found q ∷ story)) move.1 ∙ found_number question number story) in
-    behind_deed number (line_after question number) gone gone (Found asked) story status other (beside.0 reply)
-    (subst (λ (p : Plan). Moves (Found asked) p (beside.0 reply)) (sym beside.1) (reply, move.1, move.2, refl)) halts (λ all. all) (λ all. all)
-    (ends story (k reply) (beside.0 reply) status (line_after question number) gone (beside.3 reply move.2) later)
-ends (Took bytes ∷ story) (Take least most k short) other status number gone beside follows =
-    let later = subst (λ (p : Plan). Leads Moves story p (Over status)) follows.1.1 follows.2 in
-    behind_deed number number gone gone (Took bytes) story status other (beside.0 bytes)
-    (subst (λ (p : Plan). Moves (Took bytes) p (beside.0 bytes)) (sym beside.2) (follows.1.0, refl))
-    (subst (λ (g : Bool). halt_of g number (Took bytes ∷ story) ≡ halt_of g number story) (sym beside.3) refl) (λ all. all) (λ all. all)
-    (ends story (k bytes) (beside.0 bytes) status number gone (beside.4 bytes) later)
-ends (TookLast bytes ∷ story) (Take least most k short) other status number gone beside follows =
-    let later = subst (λ (p : Plan). Leads Moves story p (Over status)) follows.1.1 follows.2 in
-    behind_deed number number gone gone (TookLast bytes) story status other (beside.1 bytes)
-    (subst (λ (p : Plan). Moves (TookLast bytes) p (beside.1 bytes)) (sym beside.2) (follows.1.0, refl))
-    (subst (λ (g : Bool). halt_of g number (TookLast bytes ∷ story) ≡ halt_of g number story) (sym beside.3) refl) (λ all. all) (λ all. all)
-    (ends story (short bytes) (beside.1 bytes) status number gone (beside.5 bytes) later)
-ends (TakeFailed bytes ∷ story) (Take least most k short) other status number gone beside follows =
-    ended_by number gone (TakeFailed bytes) story InputFault status other no_halt_input
-    (subst (λ (p : Plan). Moves (TakeFailed bytes) p (Over InputFault)) (sym beside.2) (follows.1.0, refl))
+    let later : AlongTrace StepsProgram trace (k reply) (Over status) = subst (λ (p : Program). AlongTrace StepsProgram trace p (Over status)) move.3 follows.2 in
+    let halts : halt_of gone number (Found asked ∷ trace) ≡ halt_of gone (line_after question number) trace =
+    subst (λ (g : Bool). halt_of g number (Found asked ∷ trace) ≡ halt_of g (line_after question number) trace) (sym beside.2)
+    (ap (λ (q : Question). halt_line number (Found q ∷ trace)) move.1 ∙ found_number question number trace) in
+    behind_item number (line_after question number) gone gone (Found asked) trace status other (beside.0 reply)
+    (subst (λ (p : Program). StepsProgram (Found asked) p (beside.0 reply)) (sym beside.1) (reply, move.1, move.2, refl)) halts (λ all. all) (λ all. all)
+    (ends trace (k reply) (beside.0 reply) status (line_after question number) gone (beside.3 reply move.2) later)
+ends (Took bytes ∷ trace) (Take least most k short) other status number gone beside follows =
+    let later = subst (λ (p : Program). AlongTrace StepsProgram trace p (Over status)) follows.1.1 follows.2 in
+    behind_item number number gone gone (Took bytes) trace status other (beside.0 bytes)
+    (subst (λ (p : Program). StepsProgram (Took bytes) p (beside.0 bytes)) (sym beside.2) (follows.1.0, refl))
+    (subst (λ (g : Bool). halt_of g number (Took bytes ∷ trace) ≡ halt_of g number trace) (sym beside.3) refl) (λ all. all) (λ all. all)
+    (ends trace (k bytes) (beside.0 bytes) status number gone (beside.4 bytes) later)
+ends (TookLast bytes ∷ trace) (Take least most k short) other status number gone beside follows =
+    let later = subst (λ (p : Program). AlongTrace StepsProgram trace p (Over status)) follows.1.1 follows.2 in
+    behind_item number number gone gone (TookLast bytes) trace status other (beside.1 bytes)
+    (subst (λ (p : Program). StepsProgram (TookLast bytes) p (beside.1 bytes)) (sym beside.2) (follows.1.0, refl))
+    (subst (λ (g : Bool). halt_of g number (TookLast bytes ∷ trace) ≡ halt_of g number trace) (sym beside.3) refl) (λ all. all) (λ all. all)
+    (ends trace (short bytes) (beside.1 bytes) status number gone (beside.5 bytes) later)
+ends (TakeFailed bytes ∷ trace) (Take least most k short) other status number gone beside follows =
+    ended_by number gone (TakeFailed bytes) trace InputFault status other no_halt_input
+    (subst (λ (p : Program). StepsProgram (TakeFailed bytes) p (Over InputFault)) (sym beside.2) (follows.1.0, refl))
     (λ all. ap (λ (g : Bool). halt_of g number (TakeFailed bytes ∷ [])) beside.3)
-    (subst (λ (p : Plan). Leads Moves story p (Over status)) follows.1.1 follows.2)
-ends (HasPut bytes ∷ story) (Put all plan) other status number gone beside follows =
-    let later = subst (λ (p : Plan). Leads Moves story p (Over status)) follows.1.1 follows.2 in
-    behind_deed number number gone gone (HasPut bytes) story status other beside.0
-    (subst (λ (p : Plan). Moves (HasPut bytes) p beside.0) (sym beside.1) (follows.1.0, refl)) (put_halt gone) (λ all. all) (λ all. all)
-    (ends story plan beside.0 status number gone beside.2 later)
+    (subst (λ (p : Program). AlongTrace StepsProgram trace p (Over status)) follows.1.1 follows.2)
+ends (HasPut bytes ∷ trace) (Put all program) other status number gone beside follows =
+    let later = subst (λ (p : Program). AlongTrace StepsProgram trace p (Over status)) follows.1.1 follows.2 in
+    behind_item number number gone gone (HasPut bytes) trace status other beside.0
+    (subst (λ (p : Program). StepsProgram (HasPut bytes) p beside.0) (sym beside.1) (follows.1.0, refl)) (put_halt gone) (λ all. all) (λ all. all)
+    (ends trace program beside.0 status number gone beside.2 later)
   where
-    put_halt : (gone : Bool) → halt_of gone number (HasPut bytes ∷ story) ≡ halt_of gone number story
+    put_halt : (gone : Bool) → halt_of gone number (HasPut bytes ∷ trace) ≡ halt_of gone number trace
     put_halt true = refl
     put_halt false = refl
-ends (PutFailed part ∷ story) (Put all plan) other status number gone beside follows =
-    ended_by number gone (PutFailed part) story OutputFault status other no_halt_output
-    (subst (λ (p : Plan). Moves (PutFailed part) p (Over OutputFault)) (sym beside.1) (follows.1.0, refl)) (λ all. absurd all)
-    (subst (λ (p : Plan). Leads Moves story p (Over status)) follows.1.1 follows.2)
-ends (Grew ∷ story) (Allocate plan) other status number gone beside follows =
-    let later = subst (λ (p : Plan). Leads Moves story p (Over status)) follows.1 follows.2 in
-    behind_deed number number gone gone Grew story status other beside.0
-    (subst (λ (p : Plan). Moves Grew p beside.0) (sym beside.1) refl)
-    (subst (λ (g : Bool). halt_of g number (Grew ∷ story) ≡ halt_of g number story) (sym beside.2) refl) (λ all. all) (λ all. all)
-    (ends story plan beside.0 status number gone beside.3 later)
-ends (RanOut ∷ story) (Allocate plan) other status number gone beside follows =
-    ended_by number gone RanOut story OutOfMemory status other no_halt_memory
-    (subst (λ (p : Plan). Moves RanOut p (Over OutOfMemory)) (sym beside.1) refl)
+ends (PutFailed part ∷ trace) (Put all program) other status number gone beside follows =
+    ended_by number gone (PutFailed part) trace OutputFault status other no_halt_output
+    (subst (λ (p : Program). StepsProgram (PutFailed part) p (Over OutputFault)) (sym beside.1) (follows.1.0, refl)) (λ all. absurd all)
+    (subst (λ (p : Program). AlongTrace StepsProgram trace p (Over status)) follows.1.1 follows.2)
+ends (Grew ∷ trace) (Allocate program) other status number gone beside follows =
+    let later = subst (λ (p : Program). AlongTrace StepsProgram trace p (Over status)) follows.1 follows.2 in
+    behind_item number number gone gone Grew trace status other beside.0
+    (subst (λ (p : Program). StepsProgram Grew p beside.0) (sym beside.1) refl)
+    (subst (λ (g : Bool). halt_of g number (Grew ∷ trace) ≡ halt_of g number trace) (sym beside.2) refl) (λ all. all) (λ all. all)
+    (ends trace program beside.0 status number gone beside.3 later)
+ends (RanOut ∷ trace) (Allocate program) other status number gone beside follows =
+    ended_by number gone RanOut trace OutOfMemory status other no_halt_memory
+    (subst (λ (p : Program). StepsProgram RanOut p (Over OutOfMemory)) (sym beside.1) refl)
     (λ all. ap (λ (g : Bool). halt_of g number (RanOut ∷ [])) beside.2)
-    (subst (λ (p : Plan). Leads Moves story p (Over status)) follows.1 follows.2)
-ends (Did did came ∷ story) (Do action k) other status number gone beside follows =
-    by follows.1.0 follows.1.1 (subst (λ (p : Plan). Leads Moves story p (Over status)) follows.1.2 follows.2)
-    (λ done later. ends story (k done) (beside.0 done) status number gone (beside.3 done) later)
+    (subst (λ (p : Program). AlongTrace StepsProgram trace p (Over status)) follows.1 follows.2)
+ends (Did did came ∷ trace) (Do action k) other status number gone beside follows =
+    by follows.1.0 follows.1.1 (subst (λ (p : Program). AlongTrace StepsProgram trace p (Over status)) follows.1.2 follows.2)
+    (λ done later. ends trace (k done) (beside.0 done) status number gone (beside.3 done) later)
   where
-    moves_to : (outcome : Outcome action) → Did did came ≡ Did action outcome → Moves (Did did came) other (after action beside.0 outcome)
-    moves_to outcome same = subst (λ (p : Plan). Moves (Did did came) p (after action beside.0 outcome)) (sym beside.1) (outcome, same, refl)
+    moves_to : (outcome : Outcome action) → Did did came ≡ Did action outcome → StepsProgram (Did did came) other (after action beside.0 outcome)
+    moves_to outcome same = subst (λ (p : Program). StepsProgram (Did did came) p (after action beside.0 outcome)) (sym beside.1) (outcome, same, refl)
 
-    by : (outcome : Outcome action) → Did did came ≡ Did action outcome → Leads Moves story (after action k outcome) (Over status)
-        → ((done : OkOf action) → Leads Moves story (k done) (Over status) → Ended number gone story status (beside.0 done))
-        → Ended number gone (Did did came ∷ story) status other
+    by : (outcome : Outcome action) → Did did came ≡ Did action outcome → AlongTrace StepsProgram trace (after action k outcome) (Over status)
+        → ((done : OkOf action) → AlongTrace StepsProgram trace (k done) (Over status) → Ended number gone trace status (beside.0 done))
+        → Ended number gone (Did did came ∷ trace) status other
     by (Ok done) same later again =
-        behind_deed number number gone gone (Did did came) story status other (beside.0 done) (moves_to (Ok done) same)
-        (subst (λ (g : Bool). halt_of g number (Did did came ∷ story) ≡ halt_of g number story) (sym beside.2) refl) (λ all. all) (λ all. all) (again done later)
+        behind_item number number gone gone (Did did came) trace status other (beside.0 done) (moves_to (Ok done) same)
+        (subst (λ (g : Bool). halt_of g number (Did did came ∷ trace) ≡ halt_of g number trace) (sym beside.2) refl) (λ all. all) (λ all. all) (again done later)
     by (Err refusal) same later again =
-        ended_by number gone (Did did came) story (refused action refusal) status other (beside.4 refusal) (moves_to (Err refusal) same)
+        ended_by number gone (Did did came) trace (refused action refusal) status other (beside.4 refusal) (moves_to (Err refusal) same)
         (λ all. ap (λ (g : Bool). halt_of g number (Did did came ∷ [])) beside.2) later
-ends (Stepped did came events left ∷ story) (Try step k) other status number gone beside follows =
-    subst (λ (deed : Deed). Ended number gone (deed ∷ story) status other) (sym follows.1.1)
-    (by follows.1.0 (subst (λ (p : Plan). Leads Moves story p (Over status)) follows.1.2 follows.2)
-    (λ given later. ends story (k (Ok given) left) (beside.0 (Ok given) left) status number (gone || left) (beside.2 given left) later))
+ends (Stepped did came events left ∷ trace) (Try step k) other status number gone beside follows =
+    subst (λ (item : TraceItem). Ended number gone (item ∷ trace) status other) (sym follows.1.1)
+    (by follows.1.0 (subst (λ (p : Program). AlongTrace StepsProgram trace p (Over status)) follows.1.2 follows.2)
+    (λ given later. ends trace (k (Ok given) left) (beside.0 (Ok given) left) status number (gone || left) (beside.2 given left) later))
   where
-    moves_to : (answer : Answer step) → Moves (Stepped step answer events left) other (beside.0 answer left)
-    moves_to answer = subst (λ (p : Plan). Moves (Stepped step answer events left) p (beside.0 answer left)) (sym beside.1) (answer, refl, refl)
+    moves_to : (answer : Answer step) → StepsProgram (Stepped step answer events left) other (beside.0 answer left)
+    moves_to answer = subst (λ (p : Program). StepsProgram (Stepped step answer events left) p (beside.0 answer left)) (sym beside.1) (answer, refl, refl)
 
-    by : (answer : Answer step) → Leads Moves story (k answer left) (Over status)
-        → ((given : GivenBy step) → Leads Moves story (k (Ok given) left) (Over status) → Ended number (gone || left) story status (beside.0 (Ok given) left))
-        → Ended number gone (Stepped step answer events left ∷ story) status other
+    by : (answer : Answer step) → AlongTrace StepsProgram trace (k answer left) (Over status)
+        → ((given : GivenBy step) → AlongTrace StepsProgram trace (k (Ok given) left) (Over status) → Ended number (gone || left) trace status (beside.0 (Ok given) left))
+        → Ended number gone (Stepped step answer events left ∷ trace) status other
     by (Ok given) later again =
-        behind_deed number number gone (gone || left) (Stepped step (Ok given) events left) story status other (beside.0 (Ok given) left)
-        (moves_to (Ok given)) (stepped_halt step (Ok given) events gone left number story) (λ all. all) (λ all. all) (again given later)
+        behind_item number number gone (gone || left) (Stepped step (Ok given) events left) trace status other (beside.0 (Ok given) left)
+        (moves_to (Ok given)) (stepped_halt step (Ok given) events gone left number trace) (λ all. all) (λ all. all) (again given later)
     by (Err refusal) later again =
         let over = beside.3 refusal left in
-        ended_by number gone (Stepped step (Err refusal) events left) story over.0 status other over.3
-        (subst (λ (p : Plan). Moves (Stepped step (Err refusal) events left) other p) over.2 (moves_to (Err refusal))) (λ all. absurd all)
-        (subst (λ (p : Plan). Leads Moves story p (Over status)) over.1 later)
-ends (Stepped did came events left ∷ story) (RebuildAll slots done k) other status number gone beside follows = absurd beside
-ends (_ ∷ story) _ other status number gone beside follows = absurd follows.1
+        ended_by number gone (Stepped step (Err refusal) events left) trace over.0 status other over.3
+        (subst (λ (p : Program). StepsProgram (Stepped step (Err refusal) events left) other p) over.2 (moves_to (Err refusal))) (λ all. absurd all)
+        (subst (λ (p : Program). AlongTrace StepsProgram trace p (Over status)) over.1 later)
+ends (Stepped did came events left ∷ trace) (RebuildAll slots done k) other status number gone beside follows = absurd beside
+ends (_ ∷ trace) _ other status number gone beside follows = absurd follows.1
 
--- ---- the plan of a script
+-- ---- the program of a script
 
 no_halt_refusal : (slots : ℕ) (refusal : Refusal) → IsNoHalt (status_of_refusal slots refusal)
 no_halt_refusal slots (array.OutOfRange asked limit) number is = cc
@@ -246,7 +246,7 @@ no_halt_survey (survey.TwoArrays first second) number is = cc
 no_halt_survey (survey.TooFew whys) number is = cc
 
 -- a step, where both go on side by side
-step_beside : (number : ℕ) (gone : Bool) (slots : ℕ) (step : Step) (k j : GivenBy step → Bool → Plan)
+step_beside : (number : ℕ) (gone : Bool) (slots : ℕ) (step : Step) (k j : GivenBy step → Bool → Program)
     → ((given : GivenBy step) (left : Bool) → Beside number (gone || left) (k given left) (j given left))
     → Beside number gone (watch_step slots step k) (watch_step slots step j)
 step_beside number gone slots step k j each =
@@ -256,11 +256,11 @@ step_beside number gone slots step k j each =
 own_beside : (number : ℕ) (status : Status) → IsNoHalt status → Beside number false (Over status) (Over status)
 own_beside number status none = inl (refl, none, refl)
 
-module _ (number : ℕ) (rest other : Bool → Plan) (each : (left : Bool) → Beside number left (rest left) (other left)) where
+module _ (number : ℕ) (rest other : Bool → Program) (each : (left : Bool) → Beside number left (rest left) (other left)) where
   put_beside : (bytes : List ℕ) (left : Bool) → Beside number left (Put bytes (rest left)) (Put bytes (other left))
   put_beside bytes left = (other left, refl, each left)
 
-  rebuilds_beside : (slots left done : ℕ) (gone : Bool) (k j : ℕ → Bool → Plan)
+  rebuilds_beside : (slots left done : ℕ) (gone : Bool) (k j : ℕ → Bool → Program)
       → ((steps : ℕ) (gone : Bool) → Beside number gone (k steps gone) (j steps gone))
       → Beside number gone (some_rebuilds slots left done gone k) (some_rebuilds slots left done gone j)
   rebuilds_beside slots zero done gone k j behind = behind done gone
@@ -279,7 +279,7 @@ module _ (number : ℕ) (rest other : Bool → Plan) (each : (left : Bool) → B
   range_beside : (asked limit : ℕ) → Beside number false (Over (OutOfRange asked limit)) (Over (OutOfRange asked limit))
   range_beside asked limit = own_beside number (OutOfRange asked limit) (λ at is. cc)
 
-  line_beside : (g : Geometry) (said : Line) → Beside number false (line_plan g said rest) (line_plan g said other)
+  line_beside : (g : Geometry) (said : Line) → Beside number false (line_program g said rest) (line_program g said other)
   line_beside g Blank = each false
   line_beside g (Read block) =
       step_beside number false g.n (ReadBlock block) (λ contents left. Put (read_reply block contents) (rest left))
@@ -289,7 +289,7 @@ module _ (number : ℕ) (rest other : Bool → Plan) (each : (left : Bool) → B
       (λ done left. Put (wrote_reply block) (other left)) (λ done left. put_beside (wrote_reply block) left)
   line_beside g (Scrub stripe) = by (nat_lt stripe g.stripes)
     where
-      scrubs : (Bool → Plan) → Plan
+      scrubs : (Bool → Program) → Program
       scrubs on = watch_step g.n (ScrubStripe stripe) (λ cells left. Put (scrubbed_reply stripe cells) (on left))
 
       by : (has : Bool) → Beside number false (if_stripe g stripe has (scrubs rest)) (if_stripe g stripe has (scrubs other))
@@ -299,7 +299,7 @@ module _ (number : ℕ) (rest other : Bool → Plan) (each : (left : Bool) → B
       by false = range_beside stripe g.stripes
   line_beside g (Replace slot) = by (nat_lt slot g.n)
     where
-      admits : (Bool → Plan) → Plan
+      admits : (Bool → Program) → Program
       admits on = watch_step g.n (ReplaceSlot slot) (λ done left. Put (admitted_reply slot) (on left))
 
       by : (has : Bool) → Beside number false (if_slot g slot has (admits rest)) (if_slot g slot has (admits other))
@@ -312,13 +312,13 @@ module _ (number : ℕ) (rest other : Bool → Plan) (each : (left : Bool) → B
       (λ done left. put_beside (rebuilt_line done) left)
 
 -- after a line
-halted_beside : (number : ℕ) (rest other : Plan) → IsBehindLine number other → Beside number false rest other → (left : Bool)
+halted_beside : (number : ℕ) (rest other : Program) → IsBehindLine number other → Beside number false rest other → (left : Bool)
     → Beside number left (if_halted true number rest left) (if_halted false number other left)
 halted_beside number rest other behind goes true = inr (refl, refl, behind)
 halted_beside number rest other behind goes false = goes
 
 module _ (g : Geometry) where
-  does_beside : (before : ℕ) (line : List ℕ) (rest other : Plan) → IsBehindLine (before + 1) other → Beside (before + 1) false rest other
+  does_beside : (before : ℕ) (line : List ℕ) (rest other : Program) → IsBehindLine (before + 1) other → Beside (before + 1) false rest other
       → Beside before false (does_line g (before + 1) line (if_halted true (before + 1) rest)) (does_line g (before + 1) line (if_halted false (before + 1) other))
   does_beside before line rest other behind goes = (_, refl, refl, λ reply is. by reply)
     where
@@ -332,7 +332,7 @@ module _ (g : Geometry) where
   last_beside before (byte ∷ line) =
       does_beside before (byte ∷ line) (Over Done) (Over Done) (inl refl) (own_beside (before + 1) Done (λ at is. cc))
 
-  either_beside : (before : ℕ) (this that other another : Plan) → Beside before false this other → Beside before false that another → (is : Bool)
+  either_beside : (before : ℕ) (this that other another : Program) → Beside before false this other → Beside before false that another → (is : Bool)
       → Beside before false (if_so is this that) (if_so is other another)
   either_beside before this that other another one two true = one
   either_beside before this that other another one two false = two
@@ -346,12 +346,12 @@ module _ (g : Geometry) where
     refl,
     λ byte. either_beside before _ _ _ _
         (does_beside before line _ _ (inr (g, room, refl)) (lines_beside room (before + 1) []))
-        (either_beside before _ _ _ _ (lines_beside room before (line ++ byte)) (own_beside before _ (λ at is. cc)) (nat_lt (length line) LINE_LIMIT))
+        (either_beside before _ _ _ _ (lines_beside room before (line ++ byte)) (own_beside before _ (λ at is. cc)) (nat_lt (length line) MAX_SCRIPT_LINE))
         (ends_line byte),
     λ none. last_beside before line,
   )
 
-script_beside : Beside 0 false (script_plan true) (script_plan false)
+script_beside : Beside 0 false (script_program true) (script_program false)
 script_beside = (
   _,
   refl,
@@ -366,7 +366,7 @@ script_beside = (
   no_halt_survey,
 )
 
-words_beside : (words : List (List ℕ)) (events fences : ℕ) → Spells words (Guard events fences) → Beside 0 false (plan_of words) (unguarded_plan words)
+words_beside : (words : List (List ℕ)) (events fences : ℕ) → Spells words (Guard events fences) → Beside 0 false (program_of words) (unguarded_program words)
 words_beside words events fences spells = (_, refl, refl, (_, refl, refl, by))
   where
     by : (reply : Option Job) → IsReply (Words words) reply → Beside 0 false (if_spelled reply) (unguarded reply)
@@ -382,93 +382,93 @@ module _ {W : Type 0} (view : WatcherView W) (events : List Event) where
   few_left (w ∷ old) new (inl stays) = omega (arith, few_left old stays.1 stays.5, ap length stays.6)
   few_left (w ∷ old) new (inr gone) = omega (arith, few_left old new gone.1)
 
-  all_go_on : (old new : List W) → AreLeft view events old new → length old ≤ length new → All (λ w. GoesOn events (view w).patience) old
-  all_go_on [] new is many = All-nil (λ w. GoesOn events (view w).patience)
+  all_go_on : (old new : List W) → AreLeft view events old new → length old ≤ length new → All (λ w. GoesOn events (view w).remaining_quota) old
+  all_go_on [] new is many = All-nil (λ w. GoesOn events (view w).remaining_quota)
   all_go_on (w ∷ old) new (inl stays) many =
-      All-cons (λ w. GoesOn events (view w).patience) w old stays.4 (all_go_on old stays.1 stays.5 (omega (arith, many, ap length stays.6)))
+      All-cons (λ w. GoesOn events (view w).remaining_quota) w old stays.4 (all_go_on old stays.1 stays.5 (omega (arith, many, ap length stays.6)))
   all_go_on (w ∷ old) new (inr gone) many = absurd (omega (arith, many, few_left old new gone.1))
 
 module _ {R W : Type 0} (view : DeviceView R W) where
   -- where none left they are as many
-  as_many : (story : List Deed) (number : ℕ) (x y : Devices R W) → Leads (WorksAll view) story x y → halt_line number story ≡ None
+  as_many : (trace : List TraceItem) (number : ℕ) (x y : Devices R W) → AlongTrace (WorksAll view) trace x y → halt_line number trace ≡ None
       → length x.watchers ≤ length y.watchers
   as_many [] number x y works none = omega (arith, ap (λ (d : Devices R W). length d.watchers) works)
-  as_many (Stepped step answer events true ∷ story) number x y works none = absurd cc
-  as_many (Stepped step answer events false ∷ story) number x y works none =
-      omega (arith, as_many story number works.0 y works.2 none, kept works.1.2)
+  as_many (Stepped step answer events true ∷ trace) number x y works none = absurd cc
+  as_many (Stepped step answer events false ∷ trace) number x y works none =
+      omega (arith, as_many trace number works.0 y works.2 none, kept works.1.2)
     where
       kept : false ≡ some_left x.watchers works.0.watchers → length x.watchers ≤ length works.0.watchers
       kept none = grind (arith, nat_tests, none)
-  as_many (Found (ScriptLine line) ∷ story) number x y works none =
-      omega (arith, as_many story (number + 1) works.0 y works.2 none, ap (λ (d : Devices R W). length d.watchers) works.1)
-  as_many (Found (Words words) ∷ story) number x y works none =
-      omega (arith, as_many story number works.0 y works.2 none, ap (λ (d : Devices R W). length d.watchers) works.1)
-  as_many (Found (Limits g) ∷ story) number x y works none =
-      omega (arith, as_many story number works.0 y works.2 none, ap (λ (d : Devices R W). length d.watchers) works.1)
-  as_many (Found (Text text) ∷ story) number x y works none =
-      omega (arith, as_many story number works.0 y works.2 none, ap (λ (d : Devices R W). length d.watchers) works.1)
-  as_many (Found (Judgement command g input) ∷ story) number x y works none =
-      omega (arith, as_many story number works.0 y works.2 none, ap (λ (d : Devices R W). length d.watchers) works.1)
-  as_many (Found (EventLine line) ∷ story) number x y works none =
-      omega (arith, as_many story number works.0 y works.2 none, ap (λ (d : Devices R W). length d.watchers) works.1)
-  as_many (Found (Costs g) ∷ story) number x y works none =
-      omega (arith, as_many story number works.0 y works.2 none, ap (λ (d : Devices R W). length d.watchers) works.1)
-  as_many (Did (Create g) outcome ∷ story) number x y works none =
-      omega (arith, as_many story number works.0 y works.2 none, ap length works.1.3)
-  as_many (Did Survey outcome ∷ story) number x y works none =
-      omega (arith, as_many story number works.0 y works.2 none, ap length works.1.3)
-  as_many (Took bytes ∷ story) number x y works none =
-      omega (arith, as_many story number works.0 y works.2 none, ap (λ (d : Devices R W). length d.watchers) works.1)
-  as_many (TookLast bytes ∷ story) number x y works none =
-      omega (arith, as_many story number works.0 y works.2 none, ap (λ (d : Devices R W). length d.watchers) works.1)
-  as_many (TakeFailed bytes ∷ story) number x y works none =
-      omega (arith, as_many story number works.0 y works.2 none, ap (λ (d : Devices R W). length d.watchers) works.1)
-  as_many (HasPut bytes ∷ story) number x y works none =
-      omega (arith, as_many story number works.0 y works.2 none, ap (λ (d : Devices R W). length d.watchers) works.1)
-  as_many (PutFailed part ∷ story) number x y works none =
-      omega (arith, as_many story number works.0 y works.2 none, ap (λ (d : Devices R W). length d.watchers) works.1)
-  as_many (Grew ∷ story) number x y works none =
-      omega (arith, as_many story number works.0 y works.2 none, ap (λ (d : Devices R W). length d.watchers) works.1)
-  as_many (RanOut ∷ story) number x y works none =
-      omega (arith, as_many story number works.0 y works.2 none, ap (λ (d : Devices R W). length d.watchers) works.1)
+  as_many (Found (ScriptLine line) ∷ trace) number x y works none =
+      omega (arith, as_many trace (number + 1) works.0 y works.2 none, ap (λ (d : Devices R W). length d.watchers) works.1)
+  as_many (Found (Words words) ∷ trace) number x y works none =
+      omega (arith, as_many trace number works.0 y works.2 none, ap (λ (d : Devices R W). length d.watchers) works.1)
+  as_many (Found (Limits g) ∷ trace) number x y works none =
+      omega (arith, as_many trace number works.0 y works.2 none, ap (λ (d : Devices R W). length d.watchers) works.1)
+  as_many (Found (Text text) ∷ trace) number x y works none =
+      omega (arith, as_many trace number works.0 y works.2 none, ap (λ (d : Devices R W). length d.watchers) works.1)
+  as_many (Found (Judgement command g input) ∷ trace) number x y works none =
+      omega (arith, as_many trace number works.0 y works.2 none, ap (λ (d : Devices R W). length d.watchers) works.1)
+  as_many (Found (EventLine line) ∷ trace) number x y works none =
+      omega (arith, as_many trace number works.0 y works.2 none, ap (λ (d : Devices R W). length d.watchers) works.1)
+  as_many (Found (Costs g) ∷ trace) number x y works none =
+      omega (arith, as_many trace number works.0 y works.2 none, ap (λ (d : Devices R W). length d.watchers) works.1)
+  as_many (Did (Create g) outcome ∷ trace) number x y works none =
+      omega (arith, as_many trace number works.0 y works.2 none, ap length works.1.3)
+  as_many (Did Survey outcome ∷ trace) number x y works none =
+      omega (arith, as_many trace number works.0 y works.2 none, ap length works.1.3)
+  as_many (Took bytes ∷ trace) number x y works none =
+      omega (arith, as_many trace number works.0 y works.2 none, ap (λ (d : Devices R W). length d.watchers) works.1)
+  as_many (TookLast bytes ∷ trace) number x y works none =
+      omega (arith, as_many trace number works.0 y works.2 none, ap (λ (d : Devices R W). length d.watchers) works.1)
+  as_many (TakeFailed bytes ∷ trace) number x y works none =
+      omega (arith, as_many trace number works.0 y works.2 none, ap (λ (d : Devices R W). length d.watchers) works.1)
+  as_many (HasPut bytes ∷ trace) number x y works none =
+      omega (arith, as_many trace number works.0 y works.2 none, ap (λ (d : Devices R W). length d.watchers) works.1)
+  as_many (PutFailed part ∷ trace) number x y works none =
+      omega (arith, as_many trace number works.0 y works.2 none, ap (λ (d : Devices R W). length d.watchers) works.1)
+  as_many (Grew ∷ trace) number x y works none =
+      omega (arith, as_many trace number works.0 y works.2 none, ap (λ (d : Devices R W). length d.watchers) works.1)
+  as_many (RanOut ∷ trace) number x y works none =
+      omega (arith, as_many trace number works.0 y works.2 none, ap (λ (d : Devices R W). length d.watchers) works.1)
 
-  -- the front of a story
-  front_of : (front rest : List Deed) (x z : Devices R W) → Leads (WorksAll view) (front ++ rest) x z
-      → (y : Devices R W) × Leads (WorksAll view) front x y
+  -- the front of a trace
+  front_of : (front rest : List TraceItem) (x z : Devices R W) → AlongTrace (WorksAll view) (front ++ rest) x z
+      → (y : Devices R W) × AlongTrace (WorksAll view) front x y
   front_of [] rest x z works = (x, refl)
-  front_of (deed ∷ front) rest x z works =
+  front_of (item ∷ front) rest x z works =
       let behind = front_of front rest works.0 z works.2 in (behind.0, (works.0, works.1, behind.1))
 
-  patient_yet : (front rest story : List Deed) (x z : Devices R W) → AllStay view.watcher x.watchers → story ≡ front ++ rest
-      → Leads (WorksAll view) story x z → halt_line 0 front ≡ None
-      → All (λ w. GoesOn (events_of_story front) (view.watcher w).patience) x.watchers
-  patient_yet front rest story x z stay same works none =
-      let part = front_of front rest x z (subst (λ (all : List Deed). Leads (WorksAll view) all x z) same works) in
-      all_go_on view.watcher (events_of_story front) x.watchers part.0.watchers (are_told view front x part.0 stay part.1).left
+  patient_yet : (front rest trace : List TraceItem) (x z : Devices R W) → AllStay view.watcher x.watchers → trace ≡ front ++ rest
+      → AlongTrace (WorksAll view) trace x z → halt_line 0 front ≡ None
+      → All (λ w. GoesOn (events_of_trace front) (view.watcher w).remaining_quota) x.watchers
+  patient_yet front rest trace x z stay same works none =
+      let part = front_of front rest x z (subst (λ (all : List TraceItem). AlongTrace (WorksAll view) all x z) same works) in
+      all_go_on view.watcher (events_of_trace front) x.watchers part.0.watchers (are_told view front x part.0 stay part.1).left
       (as_many front 0 x part.0 part.1 none)
 
 -- ---- how a guarded script ends
 
-pub guarded_ends : (words : List (List ℕ)) (events fences : ℕ) → Spells words (Guard events fences) → (story : List Deed) (status : Status)
-    → Leads Moves story (plan_of words) (Over status) → Ended 0 false story status (unguarded_plan words)
-guarded_ends words events fences spells story status follows =
-    ends story (plan_of words) (unguarded_plan words) status 0 false (words_beside words events fences spells) follows
+pub guarded_ends : (words : List (List ℕ)) (events fences : ℕ) → Spells words (Guard events fences) → (trace : List TraceItem) (status : Status)
+    → AlongTrace StepsProgram trace (program_of words) (Over status) → Ended 0 false trace status (unguarded_program words)
+guarded_ends words events fences spells trace status follows =
+    ends trace (program_of words) (unguarded_program words) status 0 false (words_beside words events fences spells) follows
 
 pub guards_halt : (R W S K : Type 0) → GuardsHalt R W S K
 guards_halt R W S K view streams words events fences status a b x y watchers left spells stay whole =
-    by (guarded_ends words events fences spells whole.with.means.story status whole.with.means.follows)
+    by (guarded_ends words events fences spells whole.with.means.trace status whole.with.means.follows)
   where
-    story : List Deed
-    story = whole.with.means.story
+    trace : List TraceItem
+    trace = whole.with.means.trace
 
-    patient : (front rest : List Deed) → story ≡ front ++ rest → halt_line 0 front ≡ None
-        → All (λ w. GoesOn (events_of_story front) (view.watcher w).patience) watchers
-    patient front rest same none = patient_yet view front rest story _ _ stay same whole.with.works none
+    patient : (front rest : List TraceItem) → trace ≡ front ++ rest → halt_line 0 front ≡ None
+        → All (λ w. GoesOn (events_of_trace front) (view.watcher w).remaining_quota) watchers
+    patient front rest same none = patient_yet view front rest trace _ _ stay same whole.with.works none
 
     same_number : (m n : ℕ) → Halted m ≡ Halted n → m ≡ n
     same_number m n same = cc
 
-    by : Ended 0 false story status (unguarded_plan words) → EndsGuarded view.watcher words status story watchers
+    by : Ended 0 false trace status (unguarded_program words) → EndsGuarded view.watcher words status trace watchers
     by (inl own) = record {
       exact = λ number. (
         (λ is. absurd (own.0 number is)),

@@ -3,70 +3,70 @@ use Rattle.std.proofs.Common.{◌≡◌, ◌∙◌, ◌+◌, ◌-◌, ◌<◌, �
 use Rattle.std.proofs.lemmas.Bool.{le-ltb, lt-ltb}
 use Rattle.std.proofs.lemmas.Bool.Decides.{nat_tests}
 use Rattle.stair_model.specs.Geometry.{Geometry}
-use Rattle.stair_session.specs.Session.{ArrayState}
+use Rattle.stair_invariant.specs.Session.{ArrayState}
 use Rattle.stair_array.specs.Promise.{Begun, Opened}
 use Rattle.stair_script.specs.Line.{SpellsLine}
 use Rattle.stair_script.specs.declared.line.Line.{Line}
-use Rattle.stair_story.specs.Comes.{ComesTo}
-use Rattle.stair_story.specs.Devices.{DeviceView, Devices, MeansWhole, MeansWith, devices, some_left}
-use Rattle.stair_story.specs.Fault.{status_of_fault}
-use Rattle.stair_story.specs.Outside.{Outside, SourceView, SinkView, Views, no_source, outside}
-use Rattle.stair_story.specs.Plan.{Plan, Over, if_so}
-use Rattle.stair_story.specs.Question.{ScriptLine}
-use Rattle.stair_story.specs.Story.{Found, TakeFailed, Took, TookLast}
-use Rattle.stair_story.specs.Texts.{FailsByte, SCRIPT_LIMIT, TakesByte, ends_line}
-use Rattle.stair_story.specs.declared.fault.Fault.{Fault}
+use Rattle.stair_command.specs.Comes.{ExecutesOnDevices}
+use Rattle.stair_command.specs.Devices.{DeviceView, Devices, ExecutesWhole, ExecutesWith, devices, some_left}
+use Rattle.stair_command.specs.Fault.{status_of_fault}
+use Rattle.stair_command.specs.Outside.{Outside, SourceView, SinkView, Views, no_source, outside}
+use Rattle.stair_command.specs.Program.{Program, Over, if_so}
+use Rattle.stair_command.specs.Question.{ScriptLine}
+use Rattle.stair_command.specs.Trace.{Found, TakeFailed, Took, TookLast}
+use Rattle.stair_command.specs.Texts.{FailsByte, SCRIPT_LIMIT, TakesByte, ends_line}
+use Rattle.stair_command.specs.declared.fault.Fault.{Fault}
 use Rattle.stair_status.specs.declared.status.Status.{Status}
 use Rattle.stair_status.specs.declared.status.Status.TheVariants.{BadLine, Done, Halted, Input, InputFault}
-use Rattle.stair_story.proofs.ComesLaws.{comes_by, comes_then, with_comes}
-use Rattle.stair_story.proofs.DeviceLaws.{with_none, with_one, with_part, with_put, with_source, with_then}
+use Rattle.stair_command.proofs.ComesLaws.{comes_by, comes_then, with_comes}
+use Rattle.stair_command.proofs.DeviceLaws.{with_none, with_one, with_part, with_put, with_source, with_then}
 use Rattle.stair_watch.specs.WatcherList.{AllStay}
-use Rattle.stair_engine.specs.Scripts.{LINE_LIMIT, PutsReply, ReplyIsCut, all_lines, does_line, if_halted, last_line, line_plan, lines, replies, script_plan}
+use Rattle.stair_engine.specs.Scripts.{MAX_SCRIPT_LINE, PutsReply, ReplyIsCut, all_lines, does_line, if_halted, last_line, line_program, lines, replies, script_program}
 use Rattle.stair_engine.specs.Blocks.{BeginsSession}
 use Rattle.stair_engine.proofs.LineLaws.{last_untaken}
 
 -- ---- a line that was read
 
-module _ {R W : Type 0} (view : DeviceView R W) (g : Geometry) (number : ℕ) (bytes : List ℕ) (rest : Bool → Plan) (x y : Devices R W) where
+module _ {R W : Type 0} (view : DeviceView R W) (g : Geometry) (number : ℕ) (bytes : List ℕ) (rest : Bool → Program) (x y : Devices R W) where
   -- what it says is done
-  pub line_read : (said : Line) → SpellsLine bytes said → (plan : Plan) → ComesTo view (line_plan g said rest) plan x y
-      → ComesTo view (does_line g number bytes rest) plan x y
-  line_read said spells plan comes =
+  pub line_read : (said : Line) → SpellsLine bytes said → (program : Program) → ExecutesOnDevices view (line_program g said rest) program x y
+      → ExecutesOnDevices view (does_line g number bytes rest) program x y
+  line_read said spells program comes =
       comes_then view
-      (comes_by view (Found (ScriptLine bytes)) (does_line g number bytes rest) (line_plan g said rest) x x tt (Some said, refl, spells, refl) refl) comes
+      (comes_by view (Found (ScriptLine bytes)) (does_line g number bytes rest) (line_program g said rest) x x tt (Some said, refl, spells, refl) refl) comes
 
 -- it is none
 pub no_line : {R W : Type 0} (view : DeviceView R W) (g : Geometry) (number : ℕ) (bytes : List ℕ) (x : Devices R W)
-    → ((said : Line) → ¬ SpellsLine bytes said) → (rest : Bool → Plan) → ComesTo view (does_line g number bytes rest) (Over (BadLine number)) x x
+    → ((said : Line) → ¬ SpellsLine bytes said) → (rest : Bool → Program) → ExecutesOnDevices view (does_line g number bytes rest) (Over (BadLine number)) x x
 no_line view g number bytes x none rest =
     comes_by view (Found (ScriptLine bytes)) (does_line g number bytes rest) (Over (BadLine number)) x x tt (None, refl, none, refl) refl
 
 -- ---- its reply
 
-module _ {R W S K : Type 0} (view : DeviceView R W) (streams : Views S K) (plan rest : Plan) (a : Outside S K) (source : S) (held later : K)
+module _ {R W S K : Type 0} (view : DeviceView R W) (streams : Views S K) (program rest : Program) (a : Outside S K) (source : S) (held later : K)
     (counter : ℕ) (x y : Devices R W) (reply : Option (List ℕ))
-    (means : MeansWith view streams plan (replies reply rest) a (outside source held counter) x y) where
+    (means : ExecutesWith view streams program (replies reply rest) a (outside source held counter) x y) where
   -- was put out
-  pub replied : PutsReply streams.sink reply held later → MeansWith view streams plan rest a (outside source later counter) x y
+  pub replied : PutsReply streams.sink reply held later → ExecutesWith view streams program rest a (outside source later counter) x y
   replied puts = by reply means puts
     where
-      by : (reply : Option (List ℕ)) → MeansWith view streams plan (replies reply rest) a (outside source held counter) x y
-          → PutsReply streams.sink reply held later → MeansWith view streams plan rest a (outside source later counter) x y
-      by None means same = subst (λ (k : K). MeansWith view streams plan rest a (outside source k counter) x y) (sym same) means
+      by : (reply : Option (List ℕ)) → ExecutesWith view streams program (replies reply rest) a (outside source held counter) x y
+          → PutsReply streams.sink reply held later → ExecutesWith view streams program rest a (outside source later counter) x y
+      by None means same = subst (λ (k : K). ExecutesWith view streams program rest a (outside source k counter) x y) (sym same) means
       by (Some text) means holds = with_then view streams means (with_put view streams text rest source held later counter y holds)
 
   -- or a part of it
   pub reply_cut : (why : Fault) → ReplyIsCut streams.sink reply why held later
-      → MeansWith view streams plan (Over (status_of_fault why)) a (outside source later counter) x y
+      → ExecutesWith view streams program (Over (status_of_fault why)) a (outside source later counter) x y
   reply_cut why cut =
-      subst (λ (f : Fault). MeansWith view streams plan (Over (status_of_fault f)) a (outside source later counter) x y) (sym cut.is)
+      subst (λ (f : Fault). ExecutesWith view streams program (Over (status_of_fault f)) a (outside source later counter) x y) (sym cut.is)
       (with_then view streams
-      (subst (λ (r : Option (List ℕ)). MeansWith view streams plan (replies r rest) a (outside source held counter) x y) cut.some means)
+      (subst (λ (r : Option (List ℕ)). ExecutesWith view streams program (replies r rest) a (outside source held counter) x y) cut.some means)
       (with_part view streams cut.whole cut.part rest source held later counter y cut.of cut.holds))
 
 -- ---- where a line is done
 
-module _ (guarded : Bool) (number : ℕ) (rest : Plan) where
+module _ (guarded : Bool) (number : ℕ) (rest : Program) where
   -- a guarded script is halted where a watcher left
   halted_so : (left : Bool) → guarded ≡ true → left ≡ true → if_halted guarded number rest left ≡ Over (Halted number)
   halted_so left guards gone =
@@ -91,7 +91,7 @@ none_left old new many = grind (arith, nat_tests, many)
 
 module _ {R W K : Type 0} (view : DeviceView R W) (streams : Views (Unit {0}) K) (guarded : Bool) (g : Geometry) (number : ℕ) (held : K)
     (x : Devices R W) where
-  abbrev last_rest : Bool → Plan
+  abbrev last_rest : Bool → Program
   last_rest = if_halted guarded number (Over Done)
 
   some_line : (line : List ℕ) → 0 < length line → last_line guarded g number line ≡ does_line g number line last_rest
@@ -103,47 +103,47 @@ module _ {R W K : Type 0} (view : DeviceView R W) (streams : Views (Unit {0}) K)
   no_more (byte ∷ line) none = absurd (omega (arith, none))
 
   pub nothing_last : (line : List ℕ) → length line ≡ 0 → (counter : ℕ)
-      → MeansWith view streams (last_line guarded g number line) (Over Done) (outside tt held counter) (outside tt held counter) x x
+      → ExecutesWith view streams (last_line guarded g number line) (Over Done) (outside tt held counter) (outside tt held counter) x x
   nothing_last line none counter =
-      subst (λ (plan : Plan). MeansWith view streams plan (Over Done) (outside tt held counter) (outside tt held counter) x x) (sym (no_more line none))
+      subst (λ (program : Program). ExecutesWith view streams program (Over Done) (outside tt held counter) (outside tt held counter) x x) (sym (no_more line none))
       (with_none view streams (Over Done) (outside tt held counter) x)
 
   module _ (line : List ℕ) (some : 0 < length line) (y : Devices R W) where
-    last_comes : (plan : Plan) → ComesTo view (does_line g number line last_rest) plan x y → (counter : ℕ)
-        → MeansWith view streams (last_line guarded g number line) plan (outside tt held counter) (outside tt held counter) x y
-    last_comes plan comes counter =
-        subst (λ (from : Plan). MeansWith view streams from plan (outside tt held counter) (outside tt held counter) x y) (sym (some_line line some))
-        (with_comes view streams (does_line g number line last_rest) plan (outside tt held counter) x y comes)
+    last_comes : (program : Program) → ExecutesOnDevices view (does_line g number line last_rest) program x y → (counter : ℕ)
+        → ExecutesWith view streams (last_line guarded g number line) program (outside tt held counter) (outside tt held counter) x y
+    last_comes program comes counter =
+        subst (λ (from : Program). ExecutesWith view streams from program (outside tt held counter) (outside tt held counter) x y) (sym (some_line line some))
+        (with_comes view streams (does_line g number line last_rest) program (outside tt held counter) x y comes)
 
-    pub last_refused : (why : Fault) → ((rest : Bool → Plan) → ComesTo view (does_line g number line rest) (Over (status_of_fault why)) x y) → (counter : ℕ)
-        → MeansWith view streams (last_line guarded g number line) (Over (status_of_fault why)) (outside tt held counter) (outside tt held counter) x y
+    pub last_refused : (why : Fault) → ((rest : Bool → Program) → ExecutesOnDevices view (does_line g number line rest) (Over (status_of_fault why)) x y) → (counter : ℕ)
+        → ExecutesWith view streams (last_line guarded g number line) (Over (status_of_fault why)) (outside tt held counter) (outside tt held counter) x y
     last_refused why comes = last_comes (Over (status_of_fault why)) (comes last_rest)
 
     module _ (reply : Option (List ℕ))
-        (comes : (rest : Bool → Plan) → ComesTo view (does_line g number line rest) (replies reply (rest (some_left x.watchers y.watchers))) x y) (later : K) where
-      abbrev last_ending : Plan
+        (comes : (rest : Bool → Program) → ExecutesOnDevices view (does_line g number line rest) (replies reply (rest (some_left x.watchers y.watchers))) x y) (later : K) where
+      abbrev last_ending : Program
       last_ending = last_rest (some_left x.watchers y.watchers)
 
       put_last : PutsReply streams.sink reply held later → (counter : ℕ)
-          → MeansWith view streams (last_line guarded g number line) last_ending (outside tt held counter) (outside tt later counter) x y
+          → ExecutesWith view streams (last_line guarded g number line) last_ending (outside tt held counter) (outside tt later counter) x y
       put_last puts counter =
           replied view streams (last_line guarded g number line) last_ending (outside tt held counter) tt held later counter x y reply
           (last_comes (replies reply last_ending) (comes last_rest) counter) puts
 
       pub last_done : (guarded ≡ true → some_left x.watchers y.watchers ≡ false) → PutsReply streams.sink reply held later → (counter : ℕ)
-          → MeansWith view streams (last_line guarded g number line) (Over Done) (outside tt held counter) (outside tt later counter) x y
+          → ExecutesWith view streams (last_line guarded g number line) (Over Done) (outside tt held counter) (outside tt later counter) x y
       last_done stays puts counter =
-          subst (λ (plan : Plan). MeansWith view streams (last_line guarded g number line) plan (outside tt held counter) (outside tt later counter) x y)
+          subst (λ (program : Program). ExecutesWith view streams (last_line guarded g number line) program (outside tt held counter) (outside tt later counter) x y)
           (goes_so guarded number (Over Done) (some_left x.watchers y.watchers) stays) (put_last puts counter)
 
       pub last_halted : guarded ≡ true → some_left x.watchers y.watchers ≡ true → PutsReply streams.sink reply held later → (counter : ℕ)
-          → MeansWith view streams (last_line guarded g number line) (Over (Halted number)) (outside tt held counter) (outside tt later counter) x y
+          → ExecutesWith view streams (last_line guarded g number line) (Over (Halted number)) (outside tt held counter) (outside tt later counter) x y
       last_halted guards gone puts counter =
-          subst (λ (plan : Plan). MeansWith view streams (last_line guarded g number line) plan (outside tt held counter) (outside tt later counter) x y)
+          subst (λ (program : Program). ExecutesWith view streams (last_line guarded g number line) program (outside tt held counter) (outside tt later counter) x y)
           (halted_so guarded number (Over Done) (some_left x.watchers y.watchers) guards gone) (put_last puts counter)
 
       pub last_cut : (why : Fault) → ReplyIsCut streams.sink reply why held later → (counter : ℕ)
-          → MeansWith view streams (last_line guarded g number line) (Over (status_of_fault why)) (outside tt held counter) (outside tt later counter) x y
+          → ExecutesWith view streams (last_line guarded g number line) (Over (status_of_fault why)) (outside tt held counter) (outside tt later counter) x y
       last_cut why cut counter =
           reply_cut view streams (last_line guarded g number line) last_ending (outside tt held counter) tt held later counter x y reply
           (last_comes (replies reply last_ending) (comes last_rest) counter) why cut
@@ -152,30 +152,30 @@ module _ {R W K : Type 0} (view : DeviceView R W) (streams : Views (Unit {0}) K)
 
 module _ {R W S K : Type 0} (view : DeviceView R W) (streams : Views S K) (guarded : Bool) (a : Outside S K) (x y : R) (watchers left : List W)
     (array : ArrayState) (begins : BeginsSession view array x y watchers left) where
-  abbrev first_lines : Plan
+  abbrev first_lines : Program
   first_lines = all_lines guarded array.member.array.geometry
 
-  script_opened : MeansWith view streams (script_plan guarded) (if_halted guarded 0 first_lines (some_left watchers left)) a a (devices x Begun watchers)
+  script_opened : ExecutesWith view streams (script_program guarded) (if_halted guarded 0 first_lines (some_left watchers left)) a a (devices x Begun watchers)
       (devices y (Opened array) left)
   script_opened =
-      with_comes view streams (script_plan guarded) (if_halted guarded 0 first_lines (some_left watchers left)) a (devices x Begun watchers)
+      with_comes view streams (script_program guarded) (if_halted guarded 0 first_lines (some_left watchers left)) a (devices x Begun watchers)
       (devices y (Opened array) left) (begins (λ g gone. if_halted guarded 0 (all_lines guarded g) gone))
 
   pub script_halted : guarded ≡ true → some_left watchers left ≡ true
-      → MeansWhole view streams (script_plan guarded) (Over (Halted 0)) a a x y watchers left
+      → ExecutesWhole view streams (script_program guarded) (Over (Halted 0)) a a x y watchers left
   script_halted guards gone = record {
     session = Opened array;
-    with = subst (λ (plan : Plan). MeansWith view streams (script_plan guarded) plan a a (devices x Begun watchers) (devices y (Opened array) left))
+    with = subst (λ (program : Program). ExecutesWith view streams (script_program guarded) program a a (devices x Begun watchers) (devices y (Opened array) left))
         (halted_so guarded 0 first_lines (some_left watchers left) guards gone) script_opened;
   }
 
   pub script_begun : (b : Outside S K) (z : R) (later : List W) (last : ArrayState) (status : Status) → (guarded ≡ true → some_left watchers left ≡ false)
-      → MeansWith view streams first_lines (Over status) a b (devices y (Opened array) left) (devices z (Opened last) later)
-      → MeansWhole view streams (script_plan guarded) (Over status) a b x z watchers later
+      → ExecutesWith view streams first_lines (Over status) a b (devices y (Opened array) left) (devices z (Opened last) later)
+      → ExecutesWhole view streams (script_program guarded) (Over status) a b x z watchers later
   script_begun b z later last status stays means = record {
     session = Opened last;
     with = with_then view streams
-        (subst (λ (plan : Plan). MeansWith view streams (script_plan guarded) plan a a (devices x Begun watchers) (devices y (Opened array) left))
+        (subst (λ (program : Program). ExecutesWith view streams (script_program guarded) program a a (devices x Begun watchers) (devices y (Opened array) left))
         (goes_so guarded 0 first_lines (some_left watchers left) stays) script_opened) means;
   }
 
@@ -185,23 +185,23 @@ abbrev both : {S K : Type 0} → SourceView S → SinkView K → Views S K
 both source sink = record { source = source; sink = sink }
 
 -- after a byte
-abbrev byte_on : Bool → (g : Geometry) (room number : ℕ) (line : List ℕ) → List ℕ → Plan
+abbrev byte_on : Bool → (g : Geometry) (room number : ℕ) (line : List ℕ) → List ℕ → Program
 byte_on guarded g room number line byte =
     if_so (ends_line byte) (does_line g number line (if_halted guarded number (lines guarded g room (number + 1) [])))
-    (if_so (nat_lt (length line) LINE_LIMIT) (lines guarded g room number (line ++ byte)) (Over (BadLine number)))
+    (if_so (nat_lt (length line) MAX_SCRIPT_LINE) (lines guarded g room number (line ++ byte)) (Over (BadLine number)))
 
 module _ {R W S K : Type 0} (view : DeviceView R W) (source : SourceView S) (sink : SinkView K) (guarded : Bool) (g : Geometry) (first : Devices R W) (from : S)
     (empty : K) where
-  abbrev Means : Plan → S → K → Devices R W → Type 0
-  Means plan left held now =
-      (counter : ℕ) → MeansWith view (both source sink) (all_lines guarded g) plan (outside from empty counter) (outside left held counter) first now
+  abbrev Means : Program → S → K → Devices R W → Type 0
+  Means program left held now =
+      (counter : ℕ) → ExecutesWith view (both source sink) (all_lines guarded g) program (outside from empty counter) (outside left held counter) first now
 
   -- So many bytes were taken, and these are of the line of this number.
   pub record DidSoFar (taken number : ℕ) (line : List ℕ) (now : R) (is : ArrayState) (watchers : List W) (left : S) (held : K) : Type 0 where
     pub geometry : is.member.array.geometry ≡ g
     pub stay : AllStay view.watcher watchers
     pub few : number ≤ taken + 1
-    pub short : length line ≤ LINE_LIMIT
+    pub short : length line ≤ MAX_SCRIPT_LINE
     pub means : Means (lines guarded g (SCRIPT_LIMIT - taken) number line) left held (devices now (Opened is) watchers)
 
   pub none_did : (now : R) (is : ArrayState) (watchers : List W) (line : List ℕ) → line ≡ [] → first ≡ devices now (Opened is) watchers
@@ -212,8 +212,8 @@ module _ {R W S K : Type 0} (view : DeviceView R W) (source : SourceView S) (sin
     few = omega arith;
     short = omega (arith, ap length fresh);
     means = λ counter.
-        subst (λ (end : Devices R W). MeansWith view (both source sink) (all_lines guarded g) (lines guarded g (SCRIPT_LIMIT - 0) 1 line) (outside from empty counter) (outside from empty counter) first end) at
-        (subst (λ (bytes : List ℕ). MeansWith view (both source sink) (all_lines guarded g) (lines guarded g (SCRIPT_LIMIT - 0) 1 bytes) (outside from empty counter) (outside from empty counter) first first)
+        subst (λ (end : Devices R W). ExecutesWith view (both source sink) (all_lines guarded g) (lines guarded g (SCRIPT_LIMIT - 0) 1 line) (outside from empty counter) (outside from empty counter) first end) at
+        (subst (λ (bytes : List ℕ). ExecutesWith view (both source sink) (all_lines guarded g) (lines guarded g (SCRIPT_LIMIT - 0) 1 bytes) (outside from empty counter) (outside from empty counter) first first)
         (sym fresh) (with_none view (both source sink) (all_lines guarded g) (outside from empty counter) first));
   }
 
@@ -223,11 +223,11 @@ module _ {R W S K : Type 0} (view : DeviceView R W) (source : SourceView S) (sin
     pub byte_failed : (why : Fault) → FailsByte source why left later
         → Means (Over (status_of_fault why)) later held (devices now (Opened is) watchers)
     byte_failed why fails counter =
-        subst (λ (f : Fault). MeansWith view (both source sink) (all_lines guarded g) (Over (status_of_fault f)) (outside from empty counter) (outside later held counter) first
+        subst (λ (f : Fault). ExecutesWith view (both source sink) (all_lines guarded g) (Over (status_of_fault f)) (outside from empty counter) (outside later held counter) first
         (devices now (Opened is) watchers)) (sym fails.is)
         (with_then view (both source sink) (so_far.means counter) (by (SCRIPT_LIMIT - taken)))
       where
-        by : (room : ℕ) → MeansWith view (both source sink) (lines guarded g room number line) (Over InputFault) (outside left held counter) (outside later held counter)
+        by : (room : ℕ) → ExecutesWith view (both source sink) (lines guarded g room number line) (Over InputFault) (outside left held counter) (outside later held counter)
             (devices now (Opened is) watchers) (devices now (Opened is) watchers)
         by zero =
             with_one view (both source sink) (TakeFailed []) (lines guarded g 0 number line) (Over InputFault) (outside left held counter) (outside later held counter) _ _
@@ -240,7 +240,7 @@ module _ {R W S K : Type 0} (view : DeviceView R W) (source : SourceView S) (sin
     pub byte_ended : TakesByte source None left later → Means (last_line guarded g number line) later held (devices now (Opened is) watchers)
     byte_ended gives counter = with_then view (both source sink) (so_far.means counter) (by (SCRIPT_LIMIT - taken))
       where
-        by : (room : ℕ) → MeansWith view (both source sink) (lines guarded g room number line) (last_line guarded g number line) (outside left held counter) (outside later held counter)
+        by : (room : ℕ) → ExecutesWith view (both source sink) (lines guarded g room number line) (last_line guarded g number line) (outside left held counter) (outside later held counter)
             (devices now (Opened is) watchers) (devices now (Opened is) watchers)
         by zero =
             with_one view (both source sink) (TookLast []) (lines guarded g 0 number line) (last_line guarded g number line) (outside left held counter) (outside later held counter) _ _
@@ -252,15 +252,15 @@ module _ {R W S K : Type 0} (view : DeviceView R W) (source : SourceView S) (sin
     -- what stands after the last end is done
     pub ends_last : (byte : Option ℕ) → ((some : ℕ) → byte ≡ Some some → ⊥) → TakesByte source byte left later → (bytes : List ℕ) → bytes ≡ line
         → (end : Devices R W) (put : K) (status : Status)
-        → ((counter : ℕ) → MeansWith view (both no_source sink) (last_line guarded is.member.array.geometry number bytes) (Over status) (outside tt held counter)
+        → ((counter : ℕ) → ExecutesWith view (both no_source sink) (last_line guarded is.member.array.geometry number bytes) (Over status) (outside tt held counter)
         (outside tt put counter) (devices now (Opened is) watchers) end)
         → Means (Over status) later put end
     ends_last byte none gives bytes same end put status means counter =
         with_then view (both source sink) (byte_ended (no_byte byte none gives) counter)
         (with_source view source sink (last_line guarded g number line) (Over status) held put counter counter _ _ (last_untaken guarded g number line)
-        (subst (λ (all : List ℕ). MeansWith view (both no_source sink) (last_line guarded g number all) (Over status) (outside tt held counter)
+        (subst (λ (all : List ℕ). ExecutesWith view (both no_source sink) (last_line guarded g number all) (Over status) (outside tt held counter)
         (outside tt put counter) (devices now (Opened is) watchers) end) same
-        (subst (λ (of : Geometry). MeansWith view (both no_source sink) (last_line guarded of number bytes) (Over status) (outside tt held counter)
+        (subst (λ (of : Geometry). ExecutesWith view (both no_source sink) (last_line guarded of number bytes) (Over status) (outside tt held counter)
         (outside tt put counter) (devices now (Opened is) watchers) end) so_far.geometry (means counter))) later)
       where
         no_byte : (byte : Option ℕ) → ((some : ℕ) → byte ≡ Some some → ⊥) → TakesByte source byte left later → TakesByte source None left later
@@ -273,7 +273,7 @@ module _ {R W S K : Type 0} (view : DeviceView R W) (source : SourceView S) (sin
     too_long past byte gives counter =
         let none : SCRIPT_LIMIT - taken ≡ 0 = omega (arith, past) in
         with_then view (both source sink)
-        (subst (λ (room : ℕ). MeansWith view (both source sink) (all_lines guarded g) (lines guarded g room number line) (outside from empty counter) (outside left held counter) first
+        (subst (λ (room : ℕ). ExecutesWith view (both source sink) (all_lines guarded g) (lines guarded g room number line) (outside from empty counter) (outside left held counter) first
         (devices now (Opened is) watchers)) none (so_far.means counter))
         (with_one view (both source sink) (Took (byte ∷ [])) (lines guarded g 0 number line) (Over (Input SCRIPT_LIMIT (SCRIPT_LIMIT + 1))) (outside left held counter)
         (outside later held counter) _ _ (record { enough = omega arith; within = omega arith }, refl) gives refl refl refl)
@@ -285,24 +285,24 @@ module _ {R W S K : Type 0} (view : DeviceView R W) (source : SourceView S) (sin
           let room = SCRIPT_LIMIT - (taken + 1) in
           let more : SCRIPT_LIMIT - taken ≡ suc room = omega (arith, below) in
           with_then view (both source sink)
-          (subst (λ (all : ℕ). MeansWith view (both source sink) (all_lines guarded g) (lines guarded g all number line) (outside from empty counter) (outside left held counter) first
+          (subst (λ (all : ℕ). ExecutesWith view (both source sink) (all_lines guarded g) (lines guarded g all number line) (outside from empty counter) (outside left held counter) first
           (devices now (Opened is) watchers)) more (so_far.means counter))
           (with_one view (both source sink) (Took (byte ∷ [])) (lines guarded g (suc room) number line) (byte_on guarded g room number line (byte ∷ [])) (outside left held counter)
           (outside later held counter) _ _ (record { enough = omega arith; within = omega arith }, refl) gives refl refl refl)
 
       module _ (other : (byte == 10) ≡ false) where
         of_line : Means
-            (if_so (nat_lt (length line) LINE_LIMIT) (lines guarded g (SCRIPT_LIMIT - (taken + 1)) number (line ++ (byte ∷ []))) (Over (BadLine number))) later held
+            (if_so (nat_lt (length line) MAX_SCRIPT_LINE) (lines guarded g (SCRIPT_LIMIT - (taken + 1)) number (line ++ (byte ∷ []))) (Over (BadLine number))) later held
             (devices now (Opened is) watchers)
         of_line counter =
             subst
-            (λ (end : Bool). MeansWith view (both source sink) (all_lines guarded g)
+            (λ (end : Bool). ExecutesWith view (both source sink) (all_lines guarded g)
             (if_so end (does_line g number line (if_halted guarded number (lines guarded g (SCRIPT_LIMIT - (taken + 1)) (number + 1) [])))
-            (if_so (nat_lt (length line) LINE_LIMIT) (lines guarded g (SCRIPT_LIMIT - (taken + 1)) number (line ++ (byte ∷ []))) (Over (BadLine number))))
+            (if_so (nat_lt (length line) MAX_SCRIPT_LINE) (lines guarded g (SCRIPT_LIMIT - (taken + 1)) number (line ++ (byte ∷ []))) (Over (BadLine number))))
             (outside from empty counter) (outside later held counter) first (devices now (Opened is) watchers)) other (came counter)
 
         -- it is one more of the line
-        pub one_more : (longer : List ℕ) → longer ≡ line ++ (byte ∷ []) → length line < LINE_LIMIT
+        pub one_more : (longer : List ℕ) → longer ≡ line ++ (byte ∷ []) → length line < MAX_SCRIPT_LINE
             → DidSoFar (taken + 1) number longer now is watchers later held
         one_more longer same room = record {
           geometry = so_far.geometry;
@@ -310,67 +310,67 @@ module _ {R W S K : Type 0} (view : DeviceView R W) (source : SourceView S) (sin
           few = omega (arith, so_far.few);
           short = omega (arith, ap length same, length-append line (byte ∷ []), room);
           means = λ counter.
-              subst (λ (bytes : List ℕ). MeansWith view (both source sink) (all_lines guarded g) (lines guarded g (SCRIPT_LIMIT - (taken + 1)) number bytes) (outside from empty counter)
+              subst (λ (bytes : List ℕ). ExecutesWith view (both source sink) (all_lines guarded g) (lines guarded g (SCRIPT_LIMIT - (taken + 1)) number bytes) (outside from empty counter)
               (outside later held counter) first (devices now (Opened is) watchers)) (sym same)
               (subst
-              (λ (short : Bool). MeansWith view (both source sink) (all_lines guarded g)
+              (λ (short : Bool). ExecutesWith view (both source sink) (all_lines guarded g)
               (if_so short (lines guarded g (SCRIPT_LIMIT - (taken + 1)) number (line ++ (byte ∷ []))) (Over (BadLine number))) (outside from empty counter)
-              (outside later held counter) first (devices now (Opened is) watchers)) (lt-ltb (length line) LINE_LIMIT room) (of_line counter));
+              (outside later held counter) first (devices now (Opened is) watchers)) (lt-ltb (length line) MAX_SCRIPT_LINE room) (of_line counter));
         }
 
         -- or too many
-        pub line_long : LINE_LIMIT ≤ length line → Means (Over (BadLine number)) later held (devices now (Opened is) watchers)
+        pub line_long : MAX_SCRIPT_LINE ≤ length line → Means (Over (BadLine number)) later held (devices now (Opened is) watchers)
         line_long past counter =
             subst
-            (λ (short : Bool). MeansWith view (both source sink) (all_lines guarded g)
+            (λ (short : Bool). ExecutesWith view (both source sink) (all_lines guarded g)
             (if_so short (lines guarded g (SCRIPT_LIMIT - (taken + 1)) number (line ++ (byte ∷ []))) (Over (BadLine number))) (outside from empty counter)
-            (outside later held counter) first (devices now (Opened is) watchers)) (le-ltb (length line) LINE_LIMIT past) (of_line counter)
+            (outside later held counter) first (devices now (Opened is) watchers)) (le-ltb (length line) MAX_SCRIPT_LINE past) (of_line counter)
 
       module _ (end : (byte == 10) ≡ true) (next : R) (after : ArrayState) (rest : List W) where
-        abbrev behind : Plan
+        abbrev behind : Program
         behind = lines guarded g (SCRIPT_LIMIT - (taken + 1)) (number + 1) []
 
-        abbrev on_behind : Bool → Plan
+        abbrev on_behind : Bool → Program
         on_behind = if_halted guarded number behind
 
         -- it ends the line, which is done
-        line_comes : (plan : Plan)
-            → ComesTo view (does_line g number line (if_halted guarded number (lines guarded g (SCRIPT_LIMIT - (taken + 1)) (number + 1) []))) plan (devices now (Opened is) watchers)
+        line_comes : (program : Program)
+            → ExecutesOnDevices view (does_line g number line (if_halted guarded number (lines guarded g (SCRIPT_LIMIT - (taken + 1)) (number + 1) []))) program (devices now (Opened is) watchers)
             (devices next (Opened after) rest)
-            → Means plan later held (devices next (Opened after) rest)
-        line_comes plan comes counter =
+            → Means program later held (devices next (Opened after) rest)
+        line_comes program comes counter =
             with_then view (both source sink)
             (subst
-            (λ (ends : Bool). MeansWith view (both source sink) (all_lines guarded g)
+            (λ (ends : Bool). ExecutesWith view (both source sink) (all_lines guarded g)
             (if_so ends (does_line g number line (if_halted guarded number (lines guarded g (SCRIPT_LIMIT - (taken + 1)) (number + 1) [])))
-            (if_so (nat_lt (length line) LINE_LIMIT) (lines guarded g (SCRIPT_LIMIT - (taken + 1)) number (line ++ (byte ∷ []))) (Over (BadLine number))))
+            (if_so (nat_lt (length line) MAX_SCRIPT_LINE) (lines guarded g (SCRIPT_LIMIT - (taken + 1)) number (line ++ (byte ∷ []))) (Over (BadLine number))))
             (outside from empty counter) (outside later held counter) first (devices now (Opened is) watchers)) end (came counter))
-            (with_comes view (both source sink) (does_line g number line (if_halted guarded number (lines guarded g (SCRIPT_LIMIT - (taken + 1)) (number + 1) []))) plan (outside later held counter)
+            (with_comes view (both source sink) (does_line g number line (if_halted guarded number (lines guarded g (SCRIPT_LIMIT - (taken + 1)) (number + 1) []))) program (outside later held counter)
             (devices now (Opened is) watchers) (devices next (Opened after) rest) comes)
 
         module _ (bytes : List ℕ) (same : bytes ≡ line) where
           -- what is said of the line by the geometry of the array
-          of_line_now : (on : Bool → Plan) (plan : Plan)
-              → ComesTo view (does_line is.member.array.geometry number bytes on) plan (devices now (Opened is) watchers) (devices next (Opened after) rest)
-              → ComesTo view (does_line g number line on) plan (devices now (Opened is) watchers) (devices next (Opened after) rest)
-          of_line_now on plan comes =
-              subst (λ (all : List ℕ). ComesTo view (does_line g number all on) plan (devices now (Opened is) watchers) (devices next (Opened after) rest)) same
+          of_line_now : (on : Bool → Program) (program : Program)
+              → ExecutesOnDevices view (does_line is.member.array.geometry number bytes on) program (devices now (Opened is) watchers) (devices next (Opened after) rest)
+              → ExecutesOnDevices view (does_line g number line on) program (devices now (Opened is) watchers) (devices next (Opened after) rest)
+          of_line_now on program comes =
+              subst (λ (all : List ℕ). ExecutesOnDevices view (does_line g number all on) program (devices now (Opened is) watchers) (devices next (Opened after) rest)) same
               (subst
-              (λ (of : Geometry). ComesTo view (does_line of number bytes on) plan (devices now (Opened is) watchers) (devices next (Opened after) rest))
+              (λ (of : Geometry). ExecutesOnDevices view (does_line of number bytes on) program (devices now (Opened is) watchers) (devices next (Opened after) rest))
               so_far.geometry comes)
 
           pub line_refused : (why : Fault)
-              → ((on : Bool → Plan) → ComesTo view (does_line is.member.array.geometry number bytes on) (Over (status_of_fault why)) (devices now (Opened is) watchers)
+              → ((on : Bool → Program) → ExecutesOnDevices view (does_line is.member.array.geometry number bytes on) (Over (status_of_fault why)) (devices now (Opened is) watchers)
               (devices next (Opened after) rest))
               → Means (Over (status_of_fault why)) later held (devices next (Opened after) rest)
           line_refused why comes = line_comes (Over (status_of_fault why)) (of_line_now on_behind (Over (status_of_fault why)) (comes on_behind))
 
           module _ (reply : Option (List ℕ))
-              (comes : (on : Bool → Plan)
-              → ComesTo view (does_line is.member.array.geometry number bytes on) (replies reply (on (some_left watchers rest))) (devices now (Opened is) watchers)
+              (comes : (on : Bool → Program)
+              → ExecutesOnDevices view (does_line is.member.array.geometry number bytes on) (replies reply (on (some_left watchers rest))) (devices now (Opened is) watchers)
               (devices next (Opened after) rest)) (put : K) where
             -- after its reply
-            abbrev ending : Plan
+            abbrev ending : Program
             ending = on_behind (some_left watchers rest)
 
             replying : Means (replies reply ending) later held (devices next (Opened after) rest)
@@ -390,7 +390,7 @@ module _ {R W S K : Type 0} (view : DeviceView R W) (source : SourceView S) (sin
             pub line_halted : guarded ≡ true → some_left watchers rest ≡ true → PutsReply sink reply held put
                 → Means (Over (Halted number)) later put (devices next (Opened after) rest)
             line_halted guards gone puts counter =
-                subst (λ (plan : Plan). MeansWith view (both source sink) (all_lines guarded g) plan (outside from empty counter) (outside later put counter) first
+                subst (λ (program : Program). ExecutesWith view (both source sink) (all_lines guarded g) program (outside from empty counter) (outside later put counter) first
                 (devices next (Opened after) rest)) (halted_so guarded number behind (some_left watchers rest) guards gone) (line_put puts counter)
 
             pub line_did : (guarded ≡ true → some_left watchers rest ≡ false) → (fresh : List ℕ) → fresh ≡ [] → PutsReply sink reply held put
@@ -402,9 +402,9 @@ module _ {R W S K : Type 0} (view : DeviceView R W) (source : SourceView S) (sin
               few = omega (arith, so_far.few);
               short = omega (arith, ap length none);
               means = λ counter.
-                  subst (λ (all : List ℕ). MeansWith view (both source sink) (all_lines guarded g) (lines guarded g (SCRIPT_LIMIT - (taken + 1)) (number + 1) all)
+                  subst (λ (all : List ℕ). ExecutesWith view (both source sink) (all_lines guarded g) (lines guarded g (SCRIPT_LIMIT - (taken + 1)) (number + 1) all)
                   (outside from empty counter) (outside later put counter) first (devices next (Opened after) rest)) (sym none)
-                  (subst (λ (plan : Plan). MeansWith view (both source sink) (all_lines guarded g) plan (outside from empty counter) (outside later put counter) first
+                  (subst (λ (program : Program). ExecutesWith view (both source sink) (all_lines guarded g) program (outside from empty counter) (outside later put counter) first
                   (devices next (Opened after) rest)) (goes_so guarded number behind (some_left watchers rest) stays) (line_put puts counter));
             }
 

@@ -1,4 +1,4 @@
--- What the plan of a script does by itself.
+-- What the program of a script does by itself.
 use Rattle.std.specs.Prelude.{◌||◌}
 use Rattle.std.proofs.Common.{◌≡◌, ◌≢◌, ◌+◌, ◌*◌, ◌≤◌, ◌++◌, ℕ, zero, suc, Bool, true, false, nat_lt, List, [], ◌∷◌, Option, None, Some, length, refl, arith}
 use Rattle.stair_model.specs.Geometry.{Geometry}
@@ -8,25 +8,25 @@ use Rattle.stair_script.specs.declared.line.Line.{Line}
 use Rattle.stair_script.specs.declared.line.Line.TheVariants.{Blank, Read, Write, Scrub, Replace, Rebuild}
 use Rattle.stair_status.specs.declared.status.Status.{Status}
 use Rattle.stair_status.specs.declared.status.Status.TheVariants.{BadLine, Done, Halted, OutOfMemory, OutOfRange}
-use Rattle.stair_story.specs.Drawn.{opens, stamps}
-use Rattle.stair_story.specs.Ending.{AllowsAtMost, AsksForNone, CountsAtMost, EndsIn, TakesNothing}
-use Rattle.stair_story.specs.Plan.{Plan, Over, Ask, Take, Put, Allocate, Do, Try, RebuildAll, watch_step}
-use Rattle.stair_story.specs.Question.{ScriptLine}
-use Rattle.stair_story.specs.Sure.{most_allowed}
-use Rattle.stair_story.specs.Texts.{SCRIPT_LIMIT, ends_line}
-use Rattle.stair_engine.specs.Scripts.{LINE_LIMIT, all_lines, does_line, if_halted, if_line, if_nothing, if_stripe, last_line, line_plan, lines, some_rebuilds}
+use Rattle.stair_command.specs.Drawn.{opens, stamps}
+use Rattle.stair_command.specs.Ending.{AllowsAtMost, AsksForNone, CountsAtMost, EndsIn, TakesNothing}
+use Rattle.stair_command.specs.Program.{Program, Over, Ask, Take, Put, Allocate, Do, Try, RebuildAll, watch_step}
+use Rattle.stair_command.specs.Question.{ScriptLine}
+use Rattle.stair_command.specs.Sure.{most_allowed}
+use Rattle.stair_command.specs.Texts.{SCRIPT_LIMIT, ends_line}
+use Rattle.stair_engine.specs.Scripts.{MAX_SCRIPT_LINE, all_lines, does_line, if_halted, if_line, if_nothing, if_stripe, last_line, line_program, lines, some_rebuilds}
 use Rattle.stair_engine.proofs.MendLaws.{slot_so}
 use Rattle.stair_engine.proofs.OpenLaws.{IsOfJob, left_so, refusal_own, unless_so}
 
 -- ---- what is so of each way that a line may go
 
-module _ (IsSo : Plan → Type 0) where
-  pub stripe_so : (g : Geometry) (stripe : ℕ) (plan : Plan) → IsSo plan → IsSo (Over (OutOfRange stripe g.stripes)) → (has : Bool)
-      → IsSo (if_stripe g stripe has plan)
-  stripe_so g stripe plan has past true = has
-  stripe_so g stripe plan has past false = past
+module _ (IsSo : Program → Type 0) where
+  pub stripe_so : (g : Geometry) (stripe : ℕ) (program : Program) → IsSo program → IsSo (Over (OutOfRange stripe g.stripes)) → (has : Bool)
+      → IsSo (if_stripe g stripe has program)
+  stripe_so g stripe program has past true = has
+  stripe_so g stripe program has past false = past
 
-  nothing_so : (end more : Plan) → IsSo end → IsSo more → (progress : Progress) → IsSo (if_nothing end more progress)
+  nothing_so : (end more : Program) → IsSo end → IsSo more → (progress : Progress) → IsSo (if_nothing end more progress)
   nothing_so end more of_end of_more Nothing = of_end
   nothing_so end more of_end of_more (Chunk j t) = of_more
   nothing_so end more of_end of_more (Promoted j) = of_more
@@ -34,15 +34,15 @@ module _ (IsSo : Plan → Type 0) where
 
   -- steps of a rebuild, where it is so of one step by what comes after
   pub rebuilds_so : (slots : ℕ)
-      → ((k : Progress → Bool → Plan) → ((progress : Progress) (more : Bool) → IsSo (k progress more)) → IsSo (watch_step slots RebuildNext k))
-      → (left done : ℕ) (gone : Bool) (k : ℕ → Bool → Plan) → ((steps : ℕ) (gone : Bool) → IsSo (k steps gone)) → IsSo (some_rebuilds slots left done gone k)
+      → ((k : Progress → Bool → Program) → ((progress : Progress) (more : Bool) → IsSo (k progress more)) → IsSo (watch_step slots RebuildNext k))
+      → (left done : ℕ) (gone : Bool) (k : ℕ → Bool → Program) → ((steps : ℕ) (gone : Bool) → IsSo (k steps gone)) → IsSo (some_rebuilds slots left done gone k)
   rebuilds_so slots one zero done gone k behind = behind done gone
   rebuilds_so slots one (suc left) done gone k behind =
       one _ (λ progress more. nothing_so (k done (gone || more)) _ (behind done (gone || more))
       (rebuilds_so slots one left (done + 1) (gone || more) k behind) progress)
 
   -- where it is halted or goes on
-  pub halted_so : (guarded : Bool) (number : ℕ) (rest : Plan) → IsSo (Over (Halted number)) → IsSo rest → (left : Bool) → IsSo (if_halted guarded number rest left)
+  pub halted_so : (guarded : Bool) (number : ℕ) (rest : Program) → IsSo (Over (Halted number)) → IsSo rest → (left : Bool) → IsSo (if_halted guarded number rest left)
   halted_so guarded number rest halts goes left = left_so IsSo _ _ (left_so IsSo _ _ halts goes left) goes guarded
 
 -- A plan's own status is none of a fault and not Usage, nor is it lack of memory.
@@ -53,16 +53,16 @@ IsOfLine status = IsOfJob status × (status ≢ OutOfMemory)
 abbrev pub opens_or_stamps : Step → ℕ
 opens_or_stamps step = opens step + stamps step
 
--- What is so of what a line does, where it is so of each node of its plan by what comes after. No step of it opens an array or sets
+-- What is so of what a line does, where it is so of each node of its program by what comes after. No step of it opens an array or sets
 -- a stamp.
-pub record IsOfNodes (IsSo : Plan → Type 0) : Type 0 where
+pub record IsOfNodes (IsSo : Program → Type 0) : Type 0 where
   pub ends : (status : Status) → IsOfLine status → IsSo (Over status)
-  pub asks : (bytes : List ℕ) (k : Option Line → Plan) → ((reply : Option Line) → IsSo (k reply)) → IsSo (Ask (ScriptLine bytes) k)
-  pub puts : (bytes : List ℕ) (plan : Plan) → IsSo plan → IsSo (Put bytes plan)
-  pub tries : (step : Step) → opens_or_stamps step ≡ 0 → (k : Answer step → Bool → Plan) → ((answer : Answer step) (left : Bool) → IsSo (k answer left)) → IsSo (Try step k)
+  pub asks : (bytes : List ℕ) (k : Option Line → Program) → ((reply : Option Line) → IsSo (k reply)) → IsSo (Ask (ScriptLine bytes) k)
+  pub puts : (bytes : List ℕ) (program : Program) → IsSo program → IsSo (Put bytes program)
+  pub tries : (step : Step) → opens_or_stamps step ≡ 0 → (k : Answer step → Bool → Program) → ((answer : Answer step) (left : Bool) → IsSo (k answer left)) → IsSo (Try step k)
 
-module _ (IsSo : Plan → Type 0) (nodes : IsOfNodes IsSo) where
-  step_so : (slots : ℕ) (step : Step) → opens_or_stamps step ≡ 0 → (k : GivenBy step → Bool → Plan)
+module _ (IsSo : Program → Type 0) (nodes : IsOfNodes IsSo) where
+  step_so : (slots : ℕ) (step : Step) → opens_or_stamps step ≡ 0 → (k : GivenBy step → Bool → Program)
       → ((given : GivenBy step) (left : Bool) → IsSo (k given left)) → IsSo (watch_step slots step k)
   step_so slots step none k behind =
       nodes.tries step none _ (unless_so IsSo slots k behind (λ refusal. nodes.ends _ (refusal_own slots refusal)))
@@ -70,7 +70,7 @@ module _ (IsSo : Plan → Type 0) (nodes : IsOfNodes IsSo) where
   range_own : (asked limit : ℕ) → IsSo (Over (OutOfRange asked limit))
   range_own asked limit = nodes.ends _ (((λ is. cc, λ is. cc), λ is. cc), λ is. cc)
 
-  line_so : (g : Geometry) (said : Line) (rest : Bool → Plan) → ((left : Bool) → IsSo (rest left)) → IsSo (line_plan g said rest)
+  line_so : (g : Geometry) (said : Line) (rest : Bool → Program) → ((left : Bool) → IsSo (rest left)) → IsSo (line_program g said rest)
   line_so g Blank rest so = so false
   line_so g (Read block) rest so = step_so g.n (ReadBlock block) refl _ (λ contents left. nodes.puts _ (rest left) (so left))
   line_so g (Write block contents) rest so = step_so g.n (WriteBlocks block (contents ∷ [])) refl _ (λ done left. nodes.puts _ (rest left) (so left))
@@ -82,7 +82,7 @@ module _ (IsSo : Plan → Type 0) (nodes : IsOfNodes IsSo) where
   line_so g (Rebuild steps) rest so =
       rebuilds_so IsSo g.n (λ k behind. step_so g.n RebuildNext refl k behind) steps 0 false _ (λ done left. nodes.puts _ (rest left) (so left))
 
-  does_so : (g : Geometry) (number : ℕ) (line : List ℕ) (rest : Bool → Plan) → ((left : Bool) → IsSo (rest left)) → IsSo (does_line g number line rest)
+  does_so : (g : Geometry) (number : ℕ) (line : List ℕ) (rest : Bool → Program) → ((left : Bool) → IsSo (rest left)) → IsSo (does_line g number line rest)
   does_so g number line rest so = nodes.asks line (if_line g number rest) by
     where
       by : (reply : Option Line) → IsSo (if_line g number rest reply)
@@ -91,7 +91,7 @@ module _ (IsSo : Plan → Type 0) (nodes : IsOfNodes IsSo) where
 
   module _ (guarded : Bool) where
     -- after a line
-    behind_so : (number : ℕ) (rest : Plan) → IsSo rest → (left : Bool) → IsSo (if_halted guarded number rest left)
+    behind_so : (number : ℕ) (rest : Program) → IsSo rest → (left : Bool) → IsSo (if_halted guarded number rest left)
     behind_so number rest so = halted_so IsSo guarded number rest (nodes.ends _ (((λ is. cc, λ is. cc), λ is. cc), λ is. cc)) so
 
     pub last_so : (g : Geometry) (number : ℕ) (line : List ℕ) → IsSo (last_line guarded g number line)
@@ -99,7 +99,7 @@ module _ (IsSo : Plan → Type 0) (nodes : IsOfNodes IsSo) where
     last_so g number (byte ∷ line) =
         does_so g number (byte ∷ line) _ (behind_so number (Over Done) (nodes.ends Done (((λ is. cc, λ is. cc), λ is. cc), λ is. cc)))
 
-    module _ (takes : (least most : ℕ) (k short : List ℕ → Plan) → ((bytes : List ℕ) → IsSo (k bytes)) → ((bytes : List ℕ) → IsSo (short bytes))
+    module _ (takes : (least most : ℕ) (k short : List ℕ → Program) → ((bytes : List ℕ) → IsSo (k bytes)) → ((bytes : List ℕ) → IsSo (short bytes))
         → IsSo (Take least most k short)) where
       lines_so : (g : Geometry) (room number : ℕ) (line : List ℕ) → IsSo (lines guarded g room number line)
       lines_so g zero number line =
@@ -108,7 +108,7 @@ module _ (IsSo : Plan → Type 0) (nodes : IsOfNodes IsSo) where
           takes 1 1 _ _
           (λ byte. left_so IsSo _ _ (does_so g number line _ (behind_so number _ (lines_so g room (number + 1) [])))
           (left_so IsSo _ _ (lines_so g room number (line ++ byte)) (nodes.ends _ (((λ is. cc, λ is. cc), λ is. cc), λ is. cc))
-          (nat_lt (length line) LINE_LIMIT)) (ends_line byte)) (λ none. last_so g number line)
+          (nat_lt (length line) MAX_SCRIPT_LINE)) (ends_line byte)) (λ none. last_so g number line)
 
       -- and after the opening
       script_so : (g : Geometry) (left : Bool) → IsSo (if_halted guarded 0 (all_lines guarded g) left)
@@ -120,7 +120,7 @@ own_nodes : IsOfNodes (EndsIn IsOfJob)
 own_nodes = record {
   ends = λ status of. of.0;
   asks = λ bytes k behind reply is. behind reply;
-  puts = λ bytes plan behind. behind;
+  puts = λ bytes program behind. behind;
   tries = λ step none k behind. behind;
 }
 
@@ -131,7 +131,7 @@ none_nodes : IsOfNodes AsksForNone
 none_nodes = record {
   ends = λ status of. of.1;
   asks = λ bytes k behind reply is. behind reply;
-  puts = λ bytes plan behind. behind;
+  puts = λ bytes program behind. behind;
   tries = λ step none k behind. behind;
 }
 
@@ -144,7 +144,7 @@ untaken_nodes : IsOfNodes TakesNothing
 untaken_nodes = record {
   ends = λ status of. of.0.0.0;
   asks = λ bytes k behind reply is. behind reply;
-  puts = λ bytes plan behind. behind;
+  puts = λ bytes program behind. behind;
   tries = λ step none k behind. behind;
 }
 
@@ -153,23 +153,23 @@ last_untaken = last_so TakesNothing untaken_nodes
 
 -- ---- how many draws its steps are allowed: those of a replacement for each line
 
-pub allows_more : (n m : ℕ) → n ≤ m → (plan : Plan) → AllowsAtMost n plan → AllowsAtMost m plan
+pub allows_more : (n m : ℕ) → n ≤ m → (program : Program) → AllowsAtMost n program → AllowsAtMost m program
 allows_more n m more (Over status) allows = tt
 allows_more n m more (Ask question k) allows = λ reply is. allows_more n m more (k reply) (allows reply is)
 allows_more n m more (Take least most k short) allows =
     (λ bytes. allows_more n m more (k bytes) (allows.0 bytes), λ bytes. allows_more n m more (short bytes) (allows.1 bytes))
-allows_more n m more (Put bytes plan) allows = allows_more n m more plan allows
-allows_more n m more (Allocate plan) allows = allows_more n m more plan allows
+allows_more n m more (Put bytes program) allows = allows_more n m more program allows
+allows_more n m more (Allocate program) allows = allows_more n m more program allows
 allows_more n m more (Do action k) allows = λ done. allows_more n m more (k done) (allows done)
 allows_more n m more (Try step k) allows = (allows.0, omega (arith, allows.1, more), allows.2)
 allows_more n m more (RebuildAll slots done k) allows = λ count. allows_more n m more (k count) (allows count)
 
-step_allowed : (n m : ℕ) → 3 + m ≤ n → (slots : ℕ) (step : Step) (k : GivenBy step → Bool → Plan) → allowance step ≤ 3
+step_allowed : (n m : ℕ) → 3 + m ≤ n → (slots : ℕ) (step : Step) (k : GivenBy step → Bool → Program) → allowance step ≤ 3
     → ((given : GivenBy step) (left : Bool) → AllowsAtMost m (k given left)) → AllowsAtMost n (watch_step slots step k)
 step_allowed n m more slots step k few behind = (m, omega (arith, more, few), unless_so (AllowsAtMost m) slots k behind (λ refusal. tt))
 
-line_allowed : (n m : ℕ) → 3 + m ≤ n → (g : Geometry) (said : Line) (rest : Bool → Plan) → ((left : Bool) → AllowsAtMost m (rest left))
-    → AllowsAtMost n (line_plan g said rest)
+line_allowed : (n m : ℕ) → 3 + m ≤ n → (g : Geometry) (said : Line) (rest : Bool → Program) → ((left : Bool) → AllowsAtMost m (rest left))
+    → AllowsAtMost n (line_program g said rest)
 line_allowed n m more g Blank rest allows = allows_more m n (omega (arith, more)) (rest false) (allows false)
 line_allowed n m more g (Read block) rest allows = step_allowed n m more g.n (ReadBlock block) _ (omega arith) (λ contents left. allows left)
 line_allowed n m more g (Write block contents) rest allows =
@@ -183,7 +183,7 @@ line_allowed n m more g (Rebuild steps) rest allows =
     rebuilds_so (AllowsAtMost n) g.n (λ k behind. (n, omega arith, unless_so (AllowsAtMost n) g.n k behind (λ refusal. tt)))
     steps 0 false _ (λ done left. allows_more m n (omega (arith, more)) (rest left) (allows left))
 
-does_allowed : (n m : ℕ) → 3 + m ≤ n → (g : Geometry) (number : ℕ) (line : List ℕ) (rest : Bool → Plan) → ((left : Bool) → AllowsAtMost m (rest left))
+does_allowed : (n m : ℕ) → 3 + m ≤ n → (g : Geometry) (number : ℕ) (line : List ℕ) (rest : Bool → Program) → ((left : Bool) → AllowsAtMost m (rest left))
     → AllowsAtMost n (does_line g number line rest)
 does_allowed n m more g number line rest allows = λ reply is. by reply
   where
@@ -204,7 +204,7 @@ module _ (guarded : Bool) where
         (does_allowed n (3 * room + 3) (omega (arith, more)) g number line _
         (halted_so (AllowsAtMost (3 * room + 3)) guarded number _ tt (lines_within (3 * room + 3) room (omega arith) g (number + 1) [])))
         (left_so (AllowsAtMost n) _ (Over (BadLine number)) (lines_within n room (omega (arith, more)) g number (line ++ byte)) tt
-        (nat_lt (length line) LINE_LIMIT)) (ends_line byte),
+        (nat_lt (length line) MAX_SCRIPT_LINE)) (ends_line byte),
     λ none. last_allowed n (omega (arith, more)) g number line,
   )
 
@@ -223,7 +223,7 @@ count_nodes : (n : ℕ) → IsOfNodes (CountsAtMost opens_or_stamps n)
 count_nodes n = record {
   ends = λ status of. tt;
   asks = λ bytes k behind reply is. behind reply;
-  puts = λ bytes plan behind. behind;
+  puts = λ bytes program behind. behind;
   tries = λ step none k behind. (n, omega (arith, none), behind);
 }
 

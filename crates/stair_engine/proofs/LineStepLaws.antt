@@ -3,7 +3,7 @@ use Rattle.std.proofs.Common.{◌≡◌, false, length, ◌∙◌, ◌+◌, ◌-
 use Rattle.std.proofs.lemmas.Bool.{le-ltb, lt-ltb}
 use Rattle.std.specs.Prelude.{◌||◌, IfErr, IsErrAnd}
 use Rattle.stair_model.specs.Geometry.{Geometry}
-use Rattle.stair_session.specs.Session.{ArrayState}
+use Rattle.stair_invariant.specs.Session.{ArrayState}
 use Rattle.stair_array.specs.Arrays.{progress_for, rebuilt_as}
 use Rattle.stair_array.specs.Faults.{rebuild_refusal}
 use Rattle.stair_array.specs.Machine.{Answer, GivenBy, Nothing, ReadBlock, RebuildNext, Refusal, ReplaceSlot, ScrubStripe, Step, WriteBlocks}
@@ -13,35 +13,35 @@ use Rattle.stair_array.specs.declared.fault.Progress.TheVariants as progress
 use Rattle.stair_array.specs.declared.fault.RebuildFault.{RebuildFault}
 use Rattle.stair_script.specs.declared.line.Line.{Line}
 use Rattle.stair_script.specs.declared.line.Line.TheVariants.{Blank, Read, Replace, Scrub, Write}
-use Rattle.stair_story.specs.Comes.{ComesTo}
-use Rattle.stair_story.specs.declared.fault.Fault.{Fault}
-use Rattle.stair_story.specs.Fault.{status_of_fault}
-use Rattle.stair_story.specs.Devices.{DeviceView, Devices, devices, some_left}
-use Rattle.stair_story.specs.Plan.{Plan, Over, Put, watch_step}
-use Rattle.stair_story.specs.Refused.{status_of_refusal}
-use Rattle.stair_story.specs.Steps.{Takes}
+use Rattle.stair_command.specs.Comes.{ExecutesOnDevices}
+use Rattle.stair_command.specs.declared.fault.Fault.{Fault}
+use Rattle.stair_command.specs.Fault.{status_of_fault}
+use Rattle.stair_command.specs.Devices.{DeviceView, Devices, devices, some_left}
+use Rattle.stair_command.specs.Program.{Program, Over, Put, watch_step}
+use Rattle.stair_command.specs.Refused.{status_of_refusal}
+use Rattle.stair_command.specs.Steps.{Takes}
 use Rattle.stair_status.specs.declared.status.Status.TheVariants.{OutOfRange}
-use Rattle.stair_story.proofs.ComesLaws.{comes_none, comes_refused, comes_then, comes_watched, left_either, none_left, takes_fewer}
-use Rattle.stair_story.proofs.IntakeLaws.{if_err_of}
-use Rattle.stair_story.proofs.TakenLaws.{taken_geometry}
+use Rattle.stair_command.proofs.ComesLaws.{comes_none, comes_refused, comes_then, comes_watched, left_either, none_left, takes_fewer}
+use Rattle.stair_command.proofs.IntakeLaws.{if_err_of}
+use Rattle.stair_command.proofs.TakenLaws.{taken_geometry}
 use Rattle.stair_watch.specs.WatcherList.{AllStay}
 use Rattle.stair_engine.specs.Mending.{if_slot}
-use Rattle.stair_engine.specs.Scripts.{admitted_reply, if_nothing, if_stripe, line_plan, read_reply, replies, scrubbed_reply, some_rebuilds, wrote_reply}
+use Rattle.stair_engine.specs.Scripts.{admitted_reply, if_nothing, if_stripe, line_program, read_reply, replies, scrubbed_reply, some_rebuilds, wrote_reply}
 
 module _ {R W : Type 0} (view : DeviceView R W) (g : Geometry) (x y : Devices R W) where
   -- a step that is refused ends a line
-  pub line_refused : (step : Step) (refusal : Refusal) (k : GivenBy step → Bool → Plan) (slots : ℕ) → slots ≡ g.n → Takes view step (Err refusal) x y
-      → ComesTo view (watch_step g.n step k) (Over (status_of_refusal slots refusal)) x y
+  pub line_refused : (step : Step) (refusal : Refusal) (k : GivenBy step → Bool → Program) (slots : ℕ) → slots ≡ g.n → Takes view step (Err refusal) x y
+      → ExecutesOnDevices view (watch_step g.n step k) (Over (status_of_refusal slots refusal)) x y
   line_refused step refusal k slots same takes =
-      subst (λ (n : ℕ). ComesTo view (watch_step g.n step k) (Over (status_of_refusal n refusal)) x y) (sym same)
+      subst (λ (n : ℕ). ExecutesOnDevices view (watch_step g.n step k) (Over (status_of_refusal n refusal)) x y) (sym same)
       (comes_refused view g.n step refusal k x y takes)
 
-  module _ (rest : Bool → Plan) where
-    abbrev Comes : Line → Plan → Type 0
-    Comes said plan = ComesTo view (line_plan g said rest) plan x y
+  module _ (rest : Bool → Program) where
+    abbrev Comes : Line → Program → Type 0
+    Comes said program = ExecutesOnDevices view (line_program g said rest) program x y
 
     -- how it goes on
-    abbrev on : Plan
+    abbrev on : Program
     on = rest (some_left x.watchers y.watchers)
 
     pub was_read : (block : ℕ) (contents reply : List ℕ) → reply ≡ read_reply block contents → Takes view (ReadBlock block) (Ok contents) x y
@@ -63,17 +63,17 @@ module _ {R W : Type 0} (view : DeviceView R W) (g : Geometry) (x y : Devices R 
         (subst (λ (all : List (List ℕ)). Takes view (WriteBlocks block all) (Err refusal) x y) same takes)
 
     -- a stripe that the array has, and one that it hasn't
-    abbrev scrub_reply : ℕ → ℕ → Bool → Plan
+    abbrev scrub_reply : ℕ → ℕ → Bool → Program
     scrub_reply stripe cells left = Put (scrubbed_reply stripe cells) (rest left)
 
-    abbrev scrub_one : ℕ → Plan
+    abbrev scrub_one : ℕ → Program
     scrub_one stripe = watch_step g.n (ScrubStripe stripe) (scrub_reply stripe)
 
-    has_stripe : (stripe number : ℕ) → number ≡ stripe → stripe < g.stripes → (plan : Plan)
-        → ComesTo view (watch_step g.n (ScrubStripe number) (scrub_reply stripe)) plan x y → Comes (Scrub stripe) plan
-    has_stripe stripe number same below plan comes =
-        subst (λ (has : Bool). ComesTo view (if_stripe g stripe has (scrub_one stripe)) plan x y) (sym (lt-ltb stripe g.stripes below))
-        (subst (λ (t : ℕ). ComesTo view (watch_step g.n (ScrubStripe t) (scrub_reply stripe)) plan x y) same comes)
+    has_stripe : (stripe number : ℕ) → number ≡ stripe → stripe < g.stripes → (program : Program)
+        → ExecutesOnDevices view (watch_step g.n (ScrubStripe number) (scrub_reply stripe)) program x y → Comes (Scrub stripe) program
+    has_stripe stripe number same below program comes =
+        subst (λ (has : Bool). ExecutesOnDevices view (if_stripe g stripe has (scrub_one stripe)) program x y) (sym (lt-ltb stripe g.stripes below))
+        (subst (λ (t : ℕ). ExecutesOnDevices view (watch_step g.n (ScrubStripe t) (scrub_reply stripe)) program x y) same comes)
 
     pub was_scrubbed : (stripe number cells : ℕ) (reply : List ℕ) → number ≡ stripe → stripe < g.stripes → reply ≡ scrubbed_reply stripe cells
         → Takes view (ScrubStripe number) (Ok cells) x y → Comes (Scrub stripe) (Put reply on)
@@ -89,17 +89,17 @@ module _ {R W : Type 0} (view : DeviceView R W) (g : Geometry) (x y : Devices R 
         (line_refused (ScrubStripe number) refusal (scrub_reply stripe) slots of takes)
 
     -- a slot that it has
-    abbrev admit_reply : (slot : ℕ) → Unit {0} → Bool → Plan
+    abbrev admit_reply : (slot : ℕ) → Unit {0} → Bool → Program
     admit_reply slot done left = Put (admitted_reply slot) (rest left)
 
-    abbrev admit_one : ℕ → Plan
+    abbrev admit_one : ℕ → Program
     admit_one slot = watch_step g.n (ReplaceSlot slot) (admit_reply slot)
 
-    has_slot : (slot number : ℕ) → number ≡ slot → slot < g.n → (plan : Plan)
-        → ComesTo view (watch_step g.n (ReplaceSlot number) (admit_reply slot)) plan x y → Comes (Replace slot) plan
-    has_slot slot number same below plan comes =
-        subst (λ (has : Bool). ComesTo view (if_slot g slot has (admit_one slot)) plan x y) (sym (lt-ltb slot g.n below))
-        (subst (λ (j : ℕ). ComesTo view (watch_step g.n (ReplaceSlot j) (admit_reply slot)) plan x y) same comes)
+    has_slot : (slot number : ℕ) → number ≡ slot → slot < g.n → (program : Program)
+        → ExecutesOnDevices view (watch_step g.n (ReplaceSlot number) (admit_reply slot)) program x y → Comes (Replace slot) program
+    has_slot slot number same below program comes =
+        subst (λ (has : Bool). ExecutesOnDevices view (if_slot g slot has (admit_one slot)) program x y) (sym (lt-ltb slot g.n below))
+        (subst (λ (j : ℕ). ExecutesOnDevices view (watch_step g.n (ReplaceSlot j) (admit_reply slot)) program x y) same comes)
 
     pub was_admitted : (slot number : ℕ) → number ≡ slot → slot < g.n → Takes view (ReplaceSlot number) (Ok tt) x y
         → Comes (Replace slot) (Put (admitted_reply slot) on)
@@ -114,43 +114,43 @@ module _ {R W : Type 0} (view : DeviceView R W) (g : Geometry) (x y : Devices R 
         (line_refused (ReplaceSlot number) refusal (admit_reply slot) slots of takes)
 
 -- nothing is done for a blank line
-pub was_blank : {R W : Type 0} (view : DeviceView R W) (g : Geometry) (x : Devices R W) (rest : Bool → Plan)
-    → ComesTo view (line_plan g Blank rest) (rest (some_left x.watchers x.watchers)) x x
+pub was_blank : {R W : Type 0} (view : DeviceView R W) (g : Geometry) (x : Devices R W) (rest : Bool → Program)
+    → ExecutesOnDevices view (line_program g Blank rest) (rest (some_left x.watchers x.watchers)) x x
 was_blank view g x rest =
-    subst (λ (left : Bool). ComesTo view (line_plan g Blank rest) (rest left) x x) (sym (none_left x.watchers))
-    (comes_none view (line_plan g Blank rest) x)
+    subst (λ (left : Bool). ExecutesOnDevices view (line_program g Blank rest) (rest left) x x) (sym (none_left x.watchers))
+    (comes_none view (line_program g Blank rest) x)
 
 -- numbers that the array hasn't
-module _ {R W : Type 0} (view : DeviceView R W) (g : Geometry) (x : Devices R W) (rest : Bool → Plan) where
+module _ {R W : Type 0} (view : DeviceView R W) (g : Geometry) (x : Devices R W) (rest : Bool → Program) where
   pub past_stripe : (stripe limit : ℕ) → g.stripes ≤ stripe → limit ≡ g.stripes
-      → ComesTo view (line_plan g (Scrub stripe) rest) (Over (OutOfRange stripe limit)) x x
+      → ExecutesOnDevices view (line_program g (Scrub stripe) rest) (Over (OutOfRange stripe limit)) x x
   past_stripe stripe limit past same =
-      subst (λ (n : ℕ). ComesTo view (line_plan g (Scrub stripe) rest) (Over (OutOfRange stripe n)) x x) (sym same)
+      subst (λ (n : ℕ). ExecutesOnDevices view (line_program g (Scrub stripe) rest) (Over (OutOfRange stripe n)) x x) (sym same)
       (subst
-      (λ (has : Bool). ComesTo view (if_stripe g stripe has (watch_step g.n (ScrubStripe stripe) (λ cells left. Put (scrubbed_reply stripe cells) (rest left))))
+      (λ (has : Bool). ExecutesOnDevices view (if_stripe g stripe has (watch_step g.n (ScrubStripe stripe) (λ cells left. Put (scrubbed_reply stripe cells) (rest left))))
       (Over (OutOfRange stripe g.stripes)) x x) (sym (le-ltb stripe g.stripes past)) (comes_none view (Over (OutOfRange stripe g.stripes)) x))
 
-  pub past_slots : (slot limit : ℕ) → g.n ≤ slot → limit ≡ g.n → ComesTo view (line_plan g (Replace slot) rest) (Over (OutOfRange slot limit)) x x
+  pub past_slots : (slot limit : ℕ) → g.n ≤ slot → limit ≡ g.n → ExecutesOnDevices view (line_program g (Replace slot) rest) (Over (OutOfRange slot limit)) x x
   past_slots slot limit past same =
-      subst (λ (n : ℕ). ComesTo view (line_plan g (Replace slot) rest) (Over (OutOfRange slot n)) x x) (sym same)
+      subst (λ (n : ℕ). ExecutesOnDevices view (line_program g (Replace slot) rest) (Over (OutOfRange slot n)) x x) (sym same)
       (subst
-      (λ (has : Bool). ComesTo view (if_slot g slot has (watch_step g.n (ReplaceSlot slot) (λ done left. Put (admitted_reply slot) (rest left))))
+      (λ (has : Bool). ExecutesOnDevices view (if_slot g slot has (watch_step g.n (ReplaceSlot slot) (λ done left. Put (admitted_reply slot) (rest left))))
       (Over (OutOfRange slot g.n)) x x) (sym (le-ltb slot g.n past)) (comes_none view (Over (OutOfRange slot g.n)) x))
 
 -- ---- so many steps of a rebuild at most
 
 -- after a step
-abbrev rebuild_on : (slots left done : ℕ) → Bool → (ℕ → Bool → Plan) → GivenBy RebuildNext → Bool → Plan
+abbrev rebuild_on : (slots left done : ℕ) → Bool → (ℕ → Bool → Program) → GivenBy RebuildNext → Bool → Program
 rebuild_on slots left done gone k given more = if_nothing (k done (gone || more)) (some_rebuilds slots left (done + 1) (gone || more) k) given
 
-more_left : (slots steps done : ℕ) (gone : Bool) (k : ℕ → Bool → Plan) → done < steps
+more_left : (slots steps done : ℕ) (gone : Bool) (k : ℕ → Bool → Program) → done < steps
     → some_rebuilds slots (steps - done) done gone k ≡ watch_step slots RebuildNext (rebuild_on slots (steps - (done + 1)) done gone k)
 more_left slots steps done gone k below =
     let more : steps - done ≡ suc (steps - (done + 1)) = omega (arith, below) in
     ap (λ (left : ℕ). some_rebuilds slots left done gone k) more
 
 module _ {R W : Type 0} (view : DeviceView R W) (g : Geometry) (steps : ℕ) (first : Devices R W) where
-  abbrev rebuilds : (ℕ → Bool → Plan) → Plan
+  abbrev rebuilds : (ℕ → Bool → Program) → Program
   rebuilds k = some_rebuilds g.n steps 0 false k
 
   -- So many were made.
@@ -158,8 +158,8 @@ module _ {R W : Type 0} (view : DeviceView R W) (g : Geometry) (steps : ℕ) (fi
     pub geometry : is.member.array.geometry ≡ g
     pub stay : AllStay view.watcher left
     pub fewer : length left ≤ length first.watchers
-    pub comes : (k : ℕ → Bool → Plan)
-        → ComesTo view (rebuilds k) (some_rebuilds g.n (steps - done) done (some_left first.watchers left) k) first (devices now (Opened is) left)
+    pub comes : (k : ℕ → Bool → Program)
+        → ExecutesOnDevices view (rebuilds k) (some_rebuilds g.n (steps - done) done (some_left first.watchers left) k) first (devices now (Opened is) left)
 
   pub none_made : (now : R) (is : ArrayState) (left : List W) → first ≡ devices now (Opened is) left → is.member.array.geometry ≡ g
       → AllStay view.watcher left → RebuiltSome 0 now is left
@@ -172,9 +172,9 @@ module _ {R W : Type 0} (view : DeviceView R W) (g : Geometry) (steps : ℕ) (fi
         stay = stay;
         fewer = omega (arith, ap length all);
         comes = λ k.
-            subst (λ (end : Devices R W). ComesTo view (rebuilds k) (some_rebuilds g.n (steps - 0) 0 (some_left first.watchers left) k) first end) at
-            (subst (λ (gone : Bool). ComesTo view (rebuilds k) (some_rebuilds g.n (steps - 0) 0 gone k) first first) (sym none)
-            (subst (λ (left : ℕ). ComesTo view (rebuilds k) (some_rebuilds g.n left 0 false k) first first) (omega arith)
+            subst (λ (end : Devices R W). ExecutesOnDevices view (rebuilds k) (some_rebuilds g.n (steps - 0) 0 (some_left first.watchers left) k) first end) at
+            (subst (λ (gone : Bool). ExecutesOnDevices view (rebuilds k) (some_rebuilds g.n (steps - 0) 0 gone k) first first) (sym none)
+            (subst (λ (left : ℕ). ExecutesOnDevices view (rebuilds k) (some_rebuilds g.n left 0 false k) first first) (omega arith)
             (comes_none view (rebuilds k) first)));
       }
 
@@ -182,10 +182,10 @@ module _ {R W : Type 0} (view : DeviceView R W) (g : Geometry) (steps : ℕ) (fi
     abbrev gone : Bool
     gone = some_left first.watchers left
 
-    at_step : (k : ℕ → Bool → Plan) → ComesTo view (rebuilds k) (watch_step g.n RebuildNext (rebuild_on g.n (steps - (done + 1)) done gone k)) first
+    at_step : (k : ℕ → Bool → Program) → ExecutesOnDevices view (rebuilds k) (watch_step g.n RebuildNext (rebuild_on g.n (steps - (done + 1)) done gone k)) first
         (devices now (Opened is) left)
     at_step k =
-        subst (λ (plan : Plan). ComesTo view (rebuilds k) plan first (devices now (Opened is) left)) (more_left g.n steps done gone k below)
+        subst (λ (program : Program). ExecutesOnDevices view (rebuilds k) program first (devices now (Opened is) left)) (more_left g.n steps done gone k below)
         (so_far.comes k)
 
     fewer_behind : (answer : Answer RebuildNext) → Takes view RebuildNext answer (devices now (Opened is) left) (devices next (Opened after) rest)
@@ -193,19 +193,19 @@ module _ {R W : Type 0} (view : DeviceView R W) (g : Geometry) (steps : ℕ) (fi
     fewer_behind answer takes = takes_fewer view RebuildNext answer (devices now (Opened is) left) (devices next (Opened after) rest) takes
 
     -- after it, with whether a watcher left by then
-    abbrev behind : (ℕ → Bool → Plan) → GivenBy RebuildNext → Bool → Plan
+    abbrev behind : (ℕ → Bool → Program) → GivenBy RebuildNext → Bool → Program
     behind k given by_then = if_nothing (k done by_then) (some_rebuilds g.n (steps - (done + 1)) (done + 1) by_then k) given
 
-    step_on : (came : Progress) (k : ℕ → Bool → Plan)
+    step_on : (came : Progress) (k : ℕ → Bool → Program)
         → Takes view RebuildNext (Ok (progress_for came)) (devices now (Opened is) left) (devices next (Opened after) rest)
-        → ComesTo view (rebuilds k) (behind k (progress_for came) (some_left first.watchers rest)) first (devices next (Opened after) rest)
+        → ExecutesOnDevices view (rebuilds k) (behind k (progress_for came) (some_left first.watchers rest)) first (devices next (Opened after) rest)
     step_on came k takes =
-        subst (λ (by_then : Bool). ComesTo view (rebuilds k) (behind k (progress_for came) by_then) first (devices next (Opened after) rest))
+        subst (λ (by_then : Bool). ExecutesOnDevices view (rebuilds k) (behind k (progress_for came) by_then) first (devices next (Opened after) rest))
         (left_either first.watchers left rest so_far.fewer (fewer_behind (Ok (progress_for came)) takes))
         (comes_then view (at_step k)
         (comes_watched view g.n RebuildNext (progress_for came) (rebuild_on g.n (steps - (done + 1)) done gone k) _ _ takes))
 
-    goes_on : (came : Progress) (k : ℕ → Bool → Plan) (by_then : Bool) → (came ≡ progress.Nothing → ⊥)
+    goes_on : (came : Progress) (k : ℕ → Bool → Program) (by_then : Bool) → (came ≡ progress.Nothing → ⊥)
         → behind k (progress_for came) by_then ≡ some_rebuilds g.n (steps - (done + 1)) (done + 1) by_then k
     goes_on progress.Nothing k by_then other = absurd (other refl)
     goes_on (progress.Chunk j t) k by_then other = refl
@@ -221,19 +221,19 @@ module _ {R W : Type 0} (view : DeviceView R W) (g : Geometry) (steps : ℕ) (fi
       stay = stay;
       fewer = omega (arith, so_far.fewer, fewer_behind (Ok (progress_for came)) takes);
       comes = λ k.
-          subst (λ (plan : Plan). ComesTo view (rebuilds k) plan first (devices next (Opened after) rest)) (goes_on came k (some_left first.watchers rest) other)
+          subst (λ (program : Program). ExecutesOnDevices view (rebuilds k) program first (devices next (Opened after) rest)) (goes_on came k (some_left first.watchers rest) other)
           (step_on came k takes);
     }
 
     -- there was nothing
     pub nothing_made : Takes view RebuildNext (Ok Nothing) (devices now (Opened is) left) (devices next (Opened after) rest)
-        → (k : ℕ → Bool → Plan) → ComesTo view (rebuilds k) (k done (some_left first.watchers rest)) first (devices next (Opened after) rest)
+        → (k : ℕ → Bool → Program) → ExecutesOnDevices view (rebuilds k) (k done (some_left first.watchers rest)) first (devices next (Opened after) rest)
     nothing_made takes k = step_on progress.Nothing k takes
 
     -- or a step was refused
     pub none_more : (fault : RebuildFault) (slots : ℕ) → slots ≡ g.n
         → Takes view RebuildNext (Err (rebuild_refusal fault)) (devices now (Opened is) left) (devices next (Opened after) rest)
-        → (k : ℕ → Bool → Plan) → ComesTo view (rebuilds k) (Over (status_of_refusal slots (rebuild_refusal fault))) first
+        → (k : ℕ → Bool → Program) → ExecutesOnDevices view (rebuilds k) (Over (status_of_refusal slots (rebuild_refusal fault))) first
         (devices next (Opened after) rest)
     none_more fault slots same takes k =
         comes_then view (at_step k)
@@ -247,26 +247,26 @@ module _ {R W : Type 0} (view : DeviceView R W) (g : Geometry) (steps : ℕ) (fi
 
   -- all were made
   pub all_made : (done : ℕ) (now : R) (is : ArrayState) (left : List W) → RebuiltSome done now is left → steps ≤ done → done ≤ steps
-      → (k : ℕ → Bool → Plan) → ComesTo view (rebuilds k) (k steps (some_left first.watchers left)) first (devices now (Opened is) left)
+      → (k : ℕ → Bool → Program) → ExecutesOnDevices view (rebuilds k) (k steps (some_left first.watchers left)) first (devices now (Opened is) left)
   all_made done now is left so_far past few k =
       let none : steps - done ≡ 0 = omega (arith, past) in
       let all : done ≡ steps = omega (arith, past, few) in
       let gone = some_left first.watchers left in
-      subst (λ (count : ℕ). ComesTo view (rebuilds k) (k count gone) first (devices now (Opened is) left)) all
-      (subst (λ (more : ℕ). ComesTo view (rebuilds k) (some_rebuilds g.n more done gone k) first (devices now (Opened is) left)) none
+      subst (λ (count : ℕ). ExecutesOnDevices view (rebuilds k) (k count gone) first (devices now (Opened is) left)) all
+      (subst (λ (more : ℕ). ExecutesOnDevices view (rebuilds k) (some_rebuilds g.n more done gone k) first (devices now (Opened is) left)) none
       (so_far.comes k))
 
 -- ---- the line that was said
 
 module _ {R W : Type 0} (view : DeviceView R W) (g : Geometry) (x y : Devices R W) (said line : Line) (same : said ≡ line) where
   pub said_refused : {T : Type 0} (result : Result T Fault) (why : Fault) → IsErrAnd result (λ f. f ≡ why)
-      → ((rest : Bool → Plan) → ComesTo view (line_plan g line rest) (Over (status_of_fault why)) x y)
-      → IfErr result (λ f. (rest : Bool → Plan) → ComesTo view (line_plan g said rest) (Over (status_of_fault f)) x y)
+      → ((rest : Bool → Program) → ExecutesOnDevices view (line_program g line rest) (Over (status_of_fault why)) x y)
+      → IfErr result (λ f. (rest : Bool → Program) → ExecutesOnDevices view (line_program g said rest) (Over (status_of_fault f)) x y)
   said_refused result why is comes =
-      subst (λ (l : Line). IfErr result (λ f. (rest : Bool → Plan) → ComesTo view (line_plan g l rest) (Over (status_of_fault f)) x y)) (sym same)
-      (if_err_of result why (λ f. (rest : Bool → Plan) → ComesTo view (line_plan g line rest) (Over (status_of_fault f)) x y) is comes)
+      subst (λ (l : Line). IfErr result (λ f. (rest : Bool → Program) → ExecutesOnDevices view (line_program g l rest) (Over (status_of_fault f)) x y)) (sym same)
+      (if_err_of result why (λ f. (rest : Bool → Program) → ExecutesOnDevices view (line_program g line rest) (Over (status_of_fault f)) x y) is comes)
 
-  pub said_done : (reply : List ℕ) → ((rest : Bool → Plan) → ComesTo view (line_plan g line rest) (Put reply (rest (some_left x.watchers y.watchers))) x y)
-      → (rest : Bool → Plan) → ComesTo view (line_plan g said rest) (replies (Some reply) (rest (some_left x.watchers y.watchers))) x y
+  pub said_done : (reply : List ℕ) → ((rest : Bool → Program) → ExecutesOnDevices view (line_program g line rest) (Put reply (rest (some_left x.watchers y.watchers))) x y)
+      → (rest : Bool → Program) → ExecutesOnDevices view (line_program g said rest) (replies (Some reply) (rest (some_left x.watchers y.watchers))) x y
   said_done reply comes rest =
-      subst (λ (l : Line). ComesTo view (line_plan g l rest) (Put reply (rest (some_left x.watchers y.watchers))) x y) (sym same) (comes rest)
+      subst (λ (l : Line). ExecutesOnDevices view (line_program g l rest) (Put reply (rest (some_left x.watchers y.watchers))) x y) (sym same) (comes rest)

@@ -5,13 +5,13 @@ use Rattle.std.proofs.lemmas.Bool.{cases_lt}
 use Rattle.std.proofs.lemmas.List.{get_or_append_left, get_or-append-add}
 use Rattle.stair_model.specs.Geometry.{Geometry}
 use Rattle.stair_model.specs.CellSet.{CellSet, HasCell}
-use Rattle.stair_story.specs.declared.intake.Intake.{Intake}
-use Rattle.stair_story.specs.Outside.{SourceView}
-use Rattle.stair_story.specs.Taking.{TakesBytes}
+use Rattle.stair_command.specs.declared.intake.Intake.{Intake}
+use Rattle.stair_command.specs.Outside.{SourceView}
+use Rattle.stair_command.specs.Taking.{TakesBytes}
 use Rattle.stair_engine.specs.Taking.{TakesMap}
 use Rattle.stair_model.proofs.StripeLaws.{number_in}
 use Rattle.stair_engine.proofs.CellLaws.{row_more}
-use Rattle.stair_story.proofs.IntakeLaws.{TakesBytes-none, TakesBytes-more}
+use Rattle.stair_command.proofs.IntakeLaws.{TakesBytes-none, TakesBytes-more}
 
 -- of this row, the cells were added whose marks, below `count`, aren't those of held ones
 abbrev pub AddsErased : CellSet → CellSet → ℕ → ℕ → List ℕ → Type 0

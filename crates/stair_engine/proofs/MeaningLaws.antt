@@ -1,4 +1,4 @@
--- What a call of a command on one stripe does, at every end that its plan comes to.
+-- What a call of a command on one stripe does, at every end that its program comes to.
 use Rattle.std.proofs.Common.{◌≡◌, ◌≢◌, ℕ, ◌+◌, ◌<◌, ◌≤◌, Bool, true, false, List, [], ◌++◌, None, Some, IfSome, length, take, refl, sym, ap, ◌∙◌, subst, arith, length-append, append-nil}
 use Rattle.std.specs.Prelude.{Option, MatchBool}
 use Rattle.std.specs.Io.KnownBytes.{Appends, Consumes}
@@ -13,17 +13,17 @@ use Rattle.stair_status.specs.declared.status.Status.TheVariants.{Done, NotCodew
 use Rattle.stair_conf.specs.declared.job.StripeCommand.{StripeCommand}
 use Rattle.stair_engine.specs.Task.{one_stripe}
 use Rattle.stair_conf.specs.declared.job.StripeCommand.TheVariants.{Check, Encode, Restore}
-use Rattle.stair_story.specs.Answer.{IsAnswer, IsJudged, Judges, bytes_needed}
+use Rattle.stair_command.specs.Answer.{IsAnswer, IsJudged, Judges, bytes_needed}
 use Rattle.stair_engine.specs.Cause.{Answers, CountsSteps, HasCause, IfRefusedAtOnce, IsOutput, LimitsComeFirst, LooksForEnd, PutsOut, PutsPart, TakesInput}
 use Rattle.stair_engine.specs.Does.{Does}
 use Rattle.stair_engine.specs.Laws.{BytesAreAnswered, WordsAreDone}
-use Rattle.stair_story.specs.Means.{Counts, Gives}
-use Rattle.stair_story.specs.Outside.{Outside, Views, outside}
-use Rattle.stair_story.specs.Plan.{Over, answer, take_exactly}
-use Rattle.stair_engine.specs.Plans.{judged, plan_of, stripe_plan, tested_plan, within_limits}
-use Rattle.stair_story.specs.Question.{IsReply, Limits, Judgement}
-use Rattle.stair_story.specs.Story.{Deed, Found, Took, IsPart}
-use Rattle.stair_story.proofs.AllEnds.{AllEnd, Nowhere, means_all}
+use Rattle.stair_command.specs.Executes.{Counts, Gives}
+use Rattle.stair_command.specs.Outside.{Outside, Views, outside}
+use Rattle.stair_command.specs.Program.{Over, answer, take_exactly}
+use Rattle.stair_engine.specs.Programs.{judged, program_of, stripe_program, tested_program, within_limits}
+use Rattle.stair_command.specs.Question.{IsReply, Limits, Judgement}
+use Rattle.stair_command.specs.Trace.{TraceItem, Found, Took, IsPart}
+use Rattle.stair_command.proofs.AllEnds.{AllEnd, Nowhere, means_all}
 use Rattle.stair_engine.proofs.WordLaws.{spelled_all}
 use Rattle.stair_engine.proofs.AnswerLaws.{HasBytes-cells}
 use Rattle.stair_engine.proofs.JobLaws.{words_tell}
@@ -121,11 +121,11 @@ short_does view command g a =
     none_put view command g a a.source OutOfMemory a.counter tt (if_told (view.source.left a.source) _ (λ input. tt))
     (Keeps-refl (view.source.left a.source)) tt (Keeps-refl (view.sink.held a.sink)) (λ is. cc, λ is. cc) refl
 
--- ---- along the plan
+-- ---- along the program
 
 -- Whatever holds at each end that does what the command does, and leaves all where it refuses at once, holds at all ends; no
 -- call is made on the devices, whatever they are.
-module _ {X S K : Type 0} (One : Deed → X → X → Type 0) (view : Views S K) (g : Geometry) (a : Outside S K) (x : X)
+module _ {X S K : Type 0} (One : TraceItem → X → X → Type 0) (view : Views S K) (g : Geometry) (a : Outside S K) (x : X)
     (Q : Status → Outside S K → X → Type 0) where
   abbrev EachDoes : StripeCommand → Type 0
   EachDoes command = (status : Status) (b : Outside S K) → Does view command g status a b → IfRefusedAtOnce status (b ≡ a) → Q status b x
@@ -231,7 +231,7 @@ module _ {X S K : Type 0} (One : Deed → X → X → Type 0) (view : Views S K)
       )
 
   limits_all : (command : StripeCommand) → EachDoes command → (reply : Option ℕ) → IsReply (Limits g) reply
-      → AllEnd One view Q (within_limits (stripe_plan command g) reply) a x
+      → AllEnd One view Q (within_limits (stripe_program command g) reply) a x
   limits_all command each None limits =
       let needed = bytes_needed command g in
       let left = view.source.left in (
@@ -261,9 +261,9 @@ module _ {X S K : Type 0} (One : Deed → X → X → Type 0) (view : Views S K)
       (answered view command g a a.source (Limit k) (if_told (view.source.left a.source) _ (λ input. (broken, refl))))
       (Keeps-refl (view.source.left a.source)) tt (Keeps-refl (view.sink.held a.sink)) (λ is. cc, λ is. cc) refl) refl
 
-  pub tested_all : (command : StripeCommand) → EachDoes command → AllEnd One view Q (tested_plan command g) a x
+  pub tested_all : (command : StripeCommand) → EachDoes command → AllEnd One view Q (tested_program command g) a x
   tested_all command each reply n is same =
-      subst (λ (m : ℕ). AllEnd One view Q (within_limits (stripe_plan command g) reply) (outside a.source a.sink m) x) (sym same)
+      subst (λ (m : ℕ). AllEnd One view Q (within_limits (stripe_program command g) reply) (outside a.source a.sink m) x) (sym same)
       (limits_all command each reply is)
 
 -- ---- so of every call
@@ -288,7 +288,7 @@ module _ {S K : Type 0} (view : Views S K) where
   pub words_are_done : WordsAreDone view
   words_are_done words command n m r e status a b spells means =
       let of = one_stripe n m r e in
-      means_all view (λ end o x. Does view command of end a o) (plan_of words) status a b means
+      means_all view (λ end o x. Does view command of end a o) (program_of words) status a b means
       (spelled_all Nowhere view (λ end o x. Does view command of end a o) words a tt (OneStripe command n m r e) spells
       (short_does view command of a)
       (tested_all Nowhere view of a tt (λ end o x. Does view command of end a o) command (λ end o does refused. does)))

@@ -1,10 +1,10 @@
--- What the plans of commands that look after an array do by themselves.
+-- What the programs of commands that look after an array do by themselves.
 use Rattle.std.proofs.Common.{◌+◌, ℕ, zero, suc, Bool, true, false, nat_lt, refl, arith}
 use Rattle.stair_model.specs.Geometry.{Geometry}
 use Rattle.stair_super.specs.declared.mark.Mark.{Mark}
 use Rattle.stair_super.specs.declared.mark.Mark.TheVariants.{Down, Live, Rebuilding}
-use Rattle.stair_story.specs.Ending.{AdmitsNone, AdmitsOnce, AllowsAtMost, AsksForNone, EachStep, EndsIn, PutsLast, TakesNothing}
-use Rattle.stair_story.specs.Plan.{Plan, Over}
+use Rattle.stair_command.specs.Ending.{AdmitsNone, AdmitsOnce, AllowsAtMost, AsksForNone, EachStep, EndsIn, PutsLast, TakesNothing}
+use Rattle.stair_command.specs.Program.{Program, Over}
 use Rattle.stair_status.specs.declared.status.Status.TheVariants.{Done, Gone, OutOfRange}
 use Rattle.stair_engine.specs.Mending.{if_live, if_slot, replaces, scrubs}
 use Rattle.stair_engine.proofs.OpenLaws.{IsOfJob, refusal_own, unless_so}
@@ -27,10 +27,10 @@ live_own slot Live = done_own
 live_own slot Rebuilding = gone_own slot
 live_own slot Down = gone_own slot
 
-pub slot_so : (IsSo : Plan → Type 0) (g : Geometry) (slot : ℕ) (plan : Plan) → IsSo plan → IsSo (Over (OutOfRange slot g.n)) → (has : Bool)
-    → IsSo (if_slot g slot has plan)
-slot_so IsSo g slot plan has past true = has
-slot_so IsSo g slot plan has past false = past
+pub slot_so : (IsSo : Program → Type 0) (g : Geometry) (slot : ℕ) (program : Program) → IsSo program → IsSo (Over (OutOfRange slot g.n)) → (has : Bool)
+    → IsSo (if_slot g slot has program)
+slot_so IsSo g slot program has past true = has
+slot_so IsSo g slot program has past false = past
 
 pub replaces_own : (g : Geometry) (slot : ℕ) → EndsIn IsOfJob (if_slot g slot (nat_lt slot g.n) (replaces g slot))
 replaces_own g slot =

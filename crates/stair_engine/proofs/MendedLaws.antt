@@ -20,41 +20,41 @@ use Rattle.stair_member.specs.declared.why.Why.TheVariants as why
 use Rattle.stair_state.specs.Represents.{Represents}
 use Rattle.stair_state.specs.State.{State, without_seats}
 use Rattle.stair_state.specs.Tolerance.{ToleratedSince}
-use Rattle.stair_session.specs.Returning.{NoneReturns}
-use Rattle.stair_session.specs.SeatSteps.{MayDrop}
-use Rattle.stair_session.specs.Courses.{Point}
-use Rattle.stair_session.specs.Session.{ArrayState, IsArray, IsLiveIn, IsRebuiltIn, seats_in}
+use Rattle.stair_invariant.specs.Returning.{NoneReturns}
+use Rattle.stair_invariant.specs.SeatSteps.{MayDrop}
+use Rattle.stair_invariant.specs.Effects.{Snapshot}
+use Rattle.stair_invariant.specs.Session.{ArrayState, IsArray, IsLiveIn, IsRebuiltIn, seats_in}
 use Rattle.stair_array.specs.Machine.{Answer, LookAtSeats, Nothing, RebuildNext, Recover, ReplaceSlot, Step}
 use Rattle.stair_array.specs.Causes.{IsAdmitted, IsPromoted, Stays, Went}
-use Rattle.stair_array.specs.Promise.{AreFound, Begun, Ends, EndsIn, GoesOn, IsInState, IsOpenFor, Opened, Performs, ServesState, Session}
+use Rattle.stair_array.specs.Promise.{AreFound, Begun, Ends, EndsIn, GoesOn, IsInState, IsOpenFor, Opened, Performs, ServesState, Phase}
 use Rattle.stair_array.proofs.OpenStepLemmas.{starts_open}
 use Rattle.stair_conf.specs.Words.{Spells}
 use Rattle.stair_conf.specs.declared.job.Job.{Job}
 use Rattle.stair_conf.specs.declared.job.Job.TheVariants as job
-use Rattle.stair_story.specs.Devices.{DeviceView, Devices, MeansWhole, MeansWith, WorksAll, devices, seen_of}
-use Rattle.stair_story.specs.Kept.{HasMember}
-use Rattle.stair_story.specs.Outside.{Outside, Views}
-use Rattle.stair_story.specs.Plan.{Over, Put, RebuildAll}
-use Rattle.stair_story.specs.Question.{Question}
-use Rattle.stair_story.specs.Run.{Goes, IsRun, IsUpTo, Now, Runs, history_of, now}
-use Rattle.stair_story.specs.Headline.{IsBorneOut}
-use Rattle.stair_story.specs.Rebuilt.{stands_in}
-use Rattle.stair_story.specs.Sound.{AreSoundChunks, HasDeed, IsPromotionOf, IsReplacementOf, IsScrubOf, IsSound}
-use Rattle.stair_story.specs.Story.{Deed, HasPut, Stepped, Leads, Moves}
+use Rattle.stair_command.specs.Devices.{DeviceView, Devices, ExecutesWhole, ExecutesWith, WorksAll, devices, seen_of}
+use Rattle.stair_command.specs.Kept.{HasMember}
+use Rattle.stair_command.specs.Outside.{Outside, Views}
+use Rattle.stair_command.specs.Program.{Over, Put, RebuildAll}
+use Rattle.stair_command.specs.Question.{Question}
+use Rattle.stair_command.specs.Run.{Goes, IsRun, IsUpTo, Now, Runs, history_of, now}
+use Rattle.stair_command.specs.Headline.{RefinesProgram}
+use Rattle.stair_command.specs.Rebuilt.{stands_in}
+use Rattle.stair_command.specs.Sound.{AreSoundChunks, HasItem, IsPromotionOf, IsReplacementOf, IsScrubOf, IsSound}
+use Rattle.stair_command.specs.Trace.{TraceItem, HasPut, Stepped, AlongTrace, StepsProgram}
 use Rattle.stair_status.specs.declared.status.Status.{Status}
 use Rattle.stair_status.specs.declared.status.Status.TheVariants.{Done}
-use Rattle.stair_story.proofs.PerformedLaws.{borne_whole}
-use Rattle.stair_story.proofs.KeptLaws.{known_once}
-use Rattle.stair_story.proofs.PromotedLaws.{geometry_stays, was_promoted}
-use Rattle.stair_story.proofs.SessionLaws.{life_geometry, runs_are_lived}
-use Rattle.stair_story.proofs.SoundLaws.{promoted_sound, replaced_sound, scrubbed_sound}
-use Rattle.stair_story.specs.Sessions.{turns_of}
+use Rattle.stair_command.proofs.PerformedLaws.{borne_whole}
+use Rattle.stair_command.proofs.KeptLaws.{known_once}
+use Rattle.stair_command.proofs.PromotedLaws.{geometry_stays, was_promoted}
+use Rattle.stair_command.proofs.SessionLaws.{life_geometry, runs_are_lived}
+use Rattle.stair_command.proofs.SoundLaws.{promoted_sound, replaced_sound, scrubbed_sound}
+use Rattle.stair_command.specs.Sessions.{turns_of}
 use Rattle.stair_engine.specs.Laws.{ArrayIsMended, SessionIsMended}
 use Rattle.stair_engine.specs.Mended.{EndsMended, IsMendedBy, LeavesSound, Mends}
 use Rattle.stair_engine.specs.Mending.{if_slot, rebuilt_line, replaces, scrubs}
-use Rattle.stair_engine.specs.Plans.{plan_of}
+use Rattle.stair_engine.specs.Programs.{program_of}
 use Rattle.stair_engine.proofs.DoneLaws.{AreDone, GoesOnOpen, done_join, drop_dead, has_later, run_promoted, runs_upto, stays_open}
-use Rattle.stair_engine.proofs.FollowedLaws.{IsDoneBy, OpensDone, OpensFirst, PutsLine, RebuildFirst, ReplacesFirst, opened_story, opens_first, puts_line, rebuild_first, replaces_first, scrubs_all, slot_there}
+use Rattle.stair_engine.proofs.FollowedLaws.{IsDoneBy, OpensDone, OpensFirst, PutsLine, RebuildFirst, ReplacesFirst, opened_trace, opens_first, puts_line, rebuild_first, replaces_first, scrubs_all, slot_there}
 
 -- ---- an array in the end
 
@@ -112,13 +112,13 @@ sectors_sound g j first last limits start chunks k below =
         absurd (omega (arith, past, at, same))
     by past (Chunk t i, on, is) = subst (λ (s : ℕ). IsSound j s first last) is (chunks t on.0 i on.1)
 
--- ---- the last deeds of a call
+-- ---- the last items of a call
 
 -- after a step that isn't the opening the session has the array as it is then
-ends_with : (step : Step) (answer : Answer step) (is : ArrayState) (session : Session) → (step ≡ Recover → ⊥) → EndsIn step answer is session
+ends_with : (step : Step) (answer : Answer step) (is : ArrayState) (session : Phase) → (step ≡ Recover → ⊥) → EndsIn step answer is session
     → HasMember session is.member
 ends_with step answer is session other (Ends recovers err closed) = absurd (other recovers)
-ends_with step answer is session other (GoesOn ok keeps opened) = subst (λ (s : Session). HasMember s is.member) (sym opened) refl
+ends_with step answer is session other (GoesOn ok keeps opened) = subst (λ (s : Phase). HasMember s is.member) (sym opened) refl
 
 module _ {R W : Type 0} (view : DeviceView R W) where
   known_behind : (x y z : Devices R W) (m n : Membership) → z ≡ y → y ≡ x → HasMember x.session m → HasMember z.session n → n ≡ m
@@ -126,8 +126,8 @@ module _ {R W : Type 0} (view : DeviceView R W) where
       known_once x.session n m (subst (λ (d : Devices R W). HasMember d.session n) (again ∙ same) ends) has
 
   -- where a rebuild came to its end no slot is rebuilt
-  last_nothing : (steps : List Deed) (events : List Event) (left : Bool) (bytes : List ℕ) (x y : Devices R W)
-      → Leads (WorksAll view) (steps ++ Stepped RebuildNext (Ok Nothing) events left ∷ HasPut bytes ∷ []) x y → (m : Membership)
+  last_nothing : (steps : List TraceItem) (events : List Event) (left : Bool) (bytes : List ℕ) (x y : Devices R W)
+      → AlongTrace (WorksAll view) (steps ++ Stepped RebuildNext (Ok Nothing) events left ∷ HasPut bytes ∷ []) x y → (m : Membership)
       → HasMember y.session m → (j : ℕ) → ¬ IsRebuiltIn m j
   last_nothing [] events left bytes x y works m ends j rebuilt =
       elim works.1.0 [
@@ -143,26 +143,26 @@ module _ {R W : Type 0} (view : DeviceView R W) where
             ]
         | inr again ↦ (let never = again.answered in cc)
       ]
-  last_nothing (deed ∷ steps) events left bytes x y works m ends j rebuilt = last_nothing steps events left bytes works.0 y works.2 m ends j rebuilt
+  last_nothing (item ∷ steps) events left bytes x y works m ends j rebuilt = last_nothing steps events left bytes works.0 y works.2 m ends j rebuilt
 
   -- the marks that were looked at last are those in the end
-  last_look : (steps : List Deed) (seats : Seats) (events : List Event) (left : Bool) (bytes : List ℕ) (x y : Devices R W)
-      → Leads (WorksAll view) (steps ++ Stepped LookAtSeats (Ok seats) events left ∷ HasPut bytes ∷ []) x y → (m : Membership)
+  last_look : (steps : List TraceItem) (seats : Seats) (events : List Event) (left : Bool) (bytes : List ℕ) (x y : Devices R W)
+      → AlongTrace (WorksAll view) (steps ++ Stepped LookAtSeats (Ok seats) events left ∷ HasPut bytes ∷ []) x y → (m : Membership)
       → HasMember y.session m → (j : ℕ) → mark_in m.array j ≡ (seats j).mark
   last_look [] seats events left bytes x y works m ends j =
       elim works.1.0 [
         | inl does ↦
             let same = known_behind works.0 works.2.0 y does.is.member m works.2.2 works.2.1 (ends_with LookAtSeats (Ok seats) does.is works.0.session (λ is. cc) does.ends) ends in
-            let looked : does.is.member ≡ does.was.member = ap (λ (p : Point). p.member) does.does in
+            let looked : does.is.member ≡ does.was.member = ap (λ (p : Snapshot). p.member) does.does in
             ap (λ (n : Membership). mark_in n.array j) (same ∙ looked) ∙ sym (ap (λ (s : Seats). (s j).mark) does.allowed)
         | inr again ↦ absurd (let never = again.answered in cc)
       ]
-  last_look (deed ∷ steps) seats events left bytes x y works m ends j = last_look steps seats events left bytes works.0 y works.2 m ends j
+  last_look (item ∷ steps) seats events left bytes x y works m ends j = last_look steps seats events left bytes works.0 y works.2 m ends j
 
   -- a slot that was admitted and is live in the end was promoted
-  admitted_promoted : (slot : ℕ) (events : List Event) (left : Bool) (later : List Deed) (x y : Devices R W)
-      → Leads (WorksAll view) (Stepped (ReplaceSlot slot) (Ok tt) events left ∷ later) x y → GoesOnOpen x → (last : ArrayState) → y.session ≡ Opened last
-      → last.stopped ≡ None → IsLiveIn last.member slot → HasDeed (IsPromotionOf slot) later
+  admitted_promoted : (slot : ℕ) (events : List Event) (left : Bool) (later : List TraceItem) (x y : Devices R W)
+      → AlongTrace (WorksAll view) (Stepped (ReplaceSlot slot) (Ok tt) events left ∷ later) x y → GoesOnOpen x → (last : ArrayState) → y.session ≡ Opened last
+      → last.stopped ≡ None → IsLiveIn last.member slot → HasItem (IsPromotionOf slot) later
   admitted_promoted slot events left later x y works was last opened none live =
       elim works.1.0 [
         | inr again ↦ absurd (let never = again.answered in cc)
@@ -192,9 +192,9 @@ module _ {R W : Type 0} (view : DeviceView R W) (honest : IsTrue view.rack.hones
   h_of x = history_of view x
 
   -- What it leaves where all steps after the opening were done: the array once it was open, and in the end.
-  record IsLeftOpen (rest : List Deed) (g : Geometry) : Type 0 where
+  record IsLeftOpen (rest : List TraceItem) (g : Geometry) : Type 0 where
     pub mid : Devices R W
-    pub works : Leads (WorksAll view) rest mid y
+    pub works : AlongTrace (WorksAll view) rest mid y
     pub first : GoesOnOpen mid
     pub ends : GoesOnOpen y
     pub geometry : ends.last.member.array.geometry ≡ g
@@ -219,47 +219,47 @@ module _ {R W : Type 0} (view : DeviceView R W) (honest : IsTrue view.rack.hones
             ]
       ]
 
-  left_open : (asked : Question) (member : Membership) (g : Geometry) (events : List Event) (left : Bool) (rest : List Deed)
-      → Leads (WorksAll view) (opened_story asked member g events left rest) x y → AreDone rest → IsLeftOpen rest g
+  left_open : (asked : Question) (member : Membership) (g : Geometry) (events : List Event) (left : Bool) (rest : List TraceItem)
+      → AlongTrace (WorksAll view) (opened_trace asked member g events left rest) x y → AreDone rest → IsLeftOpen rest g
   left_open asked member g events left rest whole done =
       let works = whole.2.2.2.2 in
       let opened = opened_as g events left whole.2.2.2.0 works.0 works.1 in
       let ends = stays_open view rest works.0 y works.2 done opened.session in
       let stays =
       geometry_stays view rest works.0 y opened.session.last.member ends.last.member works.2
-      (subst (λ (t : Session). HasMember t opened.session.last.member) (sym opened.session.opened) refl)
-      (subst (λ (t : Session). HasMember t ends.last.member) (sym ends.opened) refl) in
+      (subst (λ (t : Phase). HasMember t opened.session.last.member) (sym opened.session.opened) refl)
+      (subst (λ (t : Phase). HasMember t ends.last.member) (sym ends.opened) refl) in
       record { mid = works.0; works = works.2; first = opened.session; ends = ends; geometry = stays ∙ opened.geometry }
 
-  -- a deed after the opening is one of the story
-  in_story : (asked : Question) (member : Membership) (g : Geometry) (events : List Event) (left : Bool) (rest : List Deed) (IsSo : Deed → Type 0)
-      → HasDeed IsSo rest → HasDeed IsSo (opened_story asked member g events left rest)
-  in_story asked member g events left rest IsSo has = has_later IsSo (opened_story asked member g events left []) rest has
+  -- an item after the opening is one of the trace
+  in_trace : (asked : Question) (member : Membership) (g : Geometry) (events : List Event) (left : Bool) (rest : List TraceItem) (IsSo : TraceItem → Type 0)
+      → HasItem IsSo rest → HasItem IsSo (opened_trace asked member g events left rest)
+  in_trace asked member g events left rest IsSo has = has_later IsSo (opened_trace asked member g events left []) rest has
 
   fresh : stands_in x.session ≡ None
   fresh = ap stands_in begun
 
   -- with what is so by the job
-  ends_mended : (asked : Job) (g : Geometry) (rest : List Deed) (leaves : IsLeftOpen rest g)
+  ends_mended : (asked : Job) (g : Geometry) (rest : List TraceItem) (leaves : IsLeftOpen rest g)
       → IsMendedBy asked leaves.ends.last.member.array.geometry (IsLiveIn leaves.ends.last.member) (IsRebuiltIn leaves.ends.last.member) (h_of x) (h_of y)
       → EndsMended asked y.session (h_of x) (h_of y)
   ends_mended asked g rest leaves so =
       record { array = leaves.ends.last; opened = leaves.ends.opened; unstopped = leaves.ends.unstopped; rules = leaves.ends.array; by_job = so }
 
-  last_known : (rest : List Deed) (g : Geometry) (leaves : IsLeftOpen rest g) → HasMember y.session leaves.ends.last.member
-  last_known rest g leaves = subst (λ (t : Session). HasMember t leaves.ends.last.member) (sym leaves.ends.opened) refl
+  last_known : (rest : List TraceItem) (g : Geometry) (leaves : IsLeftOpen rest g) → HasMember y.session leaves.ends.last.member
+  last_known rest g leaves = subst (λ (t : Phase). HasMember t leaves.ends.last.member) (sym leaves.ends.opened) refl
 
   -- ---- each job
 
-  -- the story's deeds, of which all after the opening were done, and what is left by the job
-  record IsJobDone (asked : Job) (story : List Deed) : Type 0 where
-    pub opens : OpensDone story
+  -- the story's items, of which all after the opening were done, and what is left by the job
+  record IsJobDone (asked : Job) (trace : List TraceItem) : Type 0 where
+    pub opens : OpensDone trace
     pub ends : EndsMended asked y.session (h_of x) (h_of y)
 
-  scrub_done : (story : List Deed) → Leads (WorksAll view) story x y → OpensFirst (λ g. scrubs g 0 g.stripes 0) story → IsJobDone job.Scrub story
-  scrub_done story works opens =
+  scrub_done : (trace : List TraceItem) → AlongTrace (WorksAll view) trace x y → OpensFirst (λ g. scrubs g 0 g.stripes 0) trace → IsJobDone job.Scrub trace
+  scrub_done trace works opens =
       let all = scrubs_all opens.g 0 opens.g.stripes 0 opens.rest opens.follows in
-      let whole = subst (λ (l : List Deed). Leads (WorksAll view) l x y) opens.is works in
+      let whole = subst (λ (l : List TraceItem). AlongTrace (WorksAll view) l x y) opens.is works in
       let leaves = left_open opens.asked opens.member opens.g opens.events opens.left opens.rest whole all.done in
       record {
         opens = record {
@@ -274,26 +274,26 @@ module _ {R W : Type 0} (view : DeviceView R W) (honest : IsTrue view.rack.hones
         };
         ends = ends_mended job.Scrub opens.g opens.rest leaves (λ j below live t within.
             scrubbed_sound view honest leaves.ends.last t j leaves.ends.unstopped live
-            (opened_story opens.asked opens.member opens.g opens.events opens.left opens.rest) x y whole fresh leaves.ends.opened
-            (in_story opens.asked opens.member opens.g opens.events opens.left opens.rest (IsScrubOf t)
+            (opened_trace opens.asked opens.member opens.g opens.events opens.left opens.rest) x y whole fresh leaves.ends.opened
+            (in_trace opens.asked opens.member opens.g opens.events opens.left opens.rest (IsScrubOf t)
             (all.scrubbed t (omega arith) (omega (arith, subst (λ (g : Geometry). t < g.stripes) leaves.geometry within)))));
       }
 
-  rebuild_done : (story : List Deed) → Leads (WorksAll view) story x y
-      → OpensFirst (λ g. RebuildAll g.n 0 (λ steps. Put (rebuilt_line steps) (Over Done))) story → IsJobDone job.Rebuild story
-  rebuild_done story works opens =
+  rebuild_done : (trace : List TraceItem) → AlongTrace (WorksAll view) trace x y
+      → OpensFirst (λ g. RebuildAll g.n 0 (λ steps. Put (rebuilt_line steps) (Over Done))) trace → IsJobDone job.Rebuild trace
+  rebuild_done trace works opens =
       let first = rebuild_first opens.g.n 0 (λ steps. Put (rebuilt_line steps) (Over Done)) opens.rest opens.follows in
       by first (puts_line (rebuilt_line first.count) first.rest first.follows)
     where
-      by : (first : RebuildFirst (λ steps. Put (rebuilt_line steps) (Over Done)) opens.rest) → PutsLine first.rest → IsJobDone job.Rebuild story
+      by : (first : RebuildFirst (λ steps. Put (rebuilt_line steps) (Over Done)) opens.rest) → PutsLine first.rest → IsJobDone job.Rebuild trace
       by first put =
-          let last : List Deed = Stepped RebuildNext (Ok Nothing) first.events first.left ∷ HasPut put.bytes ∷ [] in
+          let last : List TraceItem = Stepped RebuildNext (Ok Nothing) first.events first.left ∷ HasPut put.bytes ∷ [] in
           let rest : opens.rest ≡ first.steps ++ last =
-          first.is ∙ ap (λ (l : List Deed). first.steps ++ Stepped RebuildNext (Ok Nothing) first.events first.left ∷ l) put.is in
-          let is = opens.is ∙ ap (opened_story opens.asked opens.member opens.g opens.events opens.left) rest in
+          first.is ∙ ap (λ (l : List TraceItem). first.steps ++ Stepped RebuildNext (Ok Nothing) first.events first.left ∷ l) put.is in
+          let is = opens.is ∙ ap (opened_trace opens.asked opens.member opens.g opens.events opens.left) rest in
           let done : AreDone (first.steps ++ last) = done_join first.steps last first.done (tt, (tt, tt)) in
           let leaves = left_open opens.asked opens.member opens.g opens.events opens.left (first.steps ++ last)
-          (subst (λ (l : List Deed). Leads (WorksAll view) l x y) is works) done in
+          (subst (λ (l : List TraceItem). AlongTrace (WorksAll view) l x y) is works) done in
           record {
             opens = record {
               asked = opens.asked;
@@ -310,20 +310,20 @@ module _ {R W : Type 0} (view : DeviceView R W) (honest : IsTrue view.rack.hones
                 (last_known (first.steps ++ last) opens.g leaves) j);
           }
 
-  replace_done : (slot : ℕ) (story : List Deed) → Leads (WorksAll view) story x y
-      → OpensFirst (λ g. if_slot g slot (nat_lt slot g.n) (replaces g slot)) story → IsJobDone (job.Replace slot) story
-  replace_done slot story works opens =
+  replace_done : (slot : ℕ) (trace : List TraceItem) → AlongTrace (WorksAll view) trace x y
+      → OpensFirst (λ g. if_slot g slot (nat_lt slot g.n) (replaces g slot)) trace → IsJobDone (job.Replace slot) trace
+  replace_done slot trace works opens =
       let there = slot_there opens.g slot (replaces opens.g slot) (nat_lt slot opens.g.n) opens.rest opens.follows in
       by (ltb-true slot opens.g.n there.0) (replaces_first opens.g slot opens.rest there.1)
     where
-      by : slot < opens.g.n → ReplacesFirst slot opens.rest → IsJobDone (job.Replace slot) story
+      by : slot < opens.g.n → ReplacesFirst slot opens.rest → IsJobDone (job.Replace slot) trace
       by below first =
-          let look : List Deed = Stepped LookAtSeats (Ok first.seats) first.looked first.away ∷ HasPut first.bytes ∷ [] in
-          let admits : Deed = Stepped (ReplaceSlot slot) (Ok tt) first.events first.left in
-          let rest : List Deed = admits ∷ (first.steps ++ look) in
-          let is = opens.is ∙ ap (opened_story opens.asked opens.member opens.g opens.events opens.left) first.is in
+          let look : List TraceItem = Stepped LookAtSeats (Ok first.seats) first.looked first.away ∷ HasPut first.bytes ∷ [] in
+          let admits : TraceItem = Stepped (ReplaceSlot slot) (Ok tt) first.events first.left in
+          let rest : List TraceItem = admits ∷ (first.steps ++ look) in
+          let is = opens.is ∙ ap (opened_trace opens.asked opens.member opens.g opens.events opens.left) first.is in
           let done : AreDone rest = (tt, done_join first.steps look first.done (tt, (tt, tt))) in
-          let whole = subst (λ (l : List Deed). Leads (WorksAll view) l x y) is works in
+          let whole = subst (λ (l : List TraceItem). AlongTrace (WorksAll view) l x y) is works in
           let leaves = left_open opens.asked opens.member opens.g opens.events opens.left rest whole done in
           let a = leaves.ends.last in
           let within : slot < a.member.array.geometry.n = subst (λ (g : Geometry). slot < g.n) (sym leaves.geometry) below in
@@ -347,24 +347,24 @@ module _ {R W : Type 0} (view : DeviceView R W) (honest : IsTrue view.rack.hones
               within,
               live,
               sectors_sound a.member.array.geometry slot (h_of x) (h_of y) leaves.ends.array.member.array.limits
-                  (replaced_sound view honest (opened_story opens.asked opens.member opens.g opens.events opens.left rest) x y whole a slot leaves.ends.opened
-                  (in_story opens.asked opens.member opens.g opens.events opens.left rest (IsReplacementOf slot) (inl refl)))
-                  (promoted_sound view honest (opened_story opens.asked opens.member opens.g opens.events opens.left rest) x y whole a slot fresh
-                  leaves.ends.opened (in_story opens.asked opens.member opens.g opens.events opens.left rest (IsPromotionOf slot) (inr promoted))),
+                  (replaced_sound view honest (opened_trace opens.asked opens.member opens.g opens.events opens.left rest) x y whole a slot leaves.ends.opened
+                  (in_trace opens.asked opens.member opens.g opens.events opens.left rest (IsReplacementOf slot) (inl refl)))
+                  (promoted_sound view honest (opened_trace opens.asked opens.member opens.g opens.events opens.left rest) x y whole a slot fresh
+                  leaves.ends.opened (in_trace opens.asked opens.member opens.g opens.events opens.left rest (IsPromotionOf slot) (inr promoted))),
             );
           }
 
-  job_done : (words : List (List ℕ)) (asked : Job) → Spells words asked → Mends asked → (story : List Deed) → Leads (WorksAll view) story x y
-      → IsDoneBy (plan_of words) story → IsJobDone asked story
-  job_done words job.Scrub spells mends story works follows =
-      scrub_done story works (opens_first (λ g. scrubs g 0 g.stripes 0) words job.Scrub spells refl story follows)
-  job_done words (job.Replace slot) spells mends story works follows =
-      replace_done slot story works
-      (opens_first (λ g. if_slot g slot (nat_lt slot g.n) (replaces g slot)) words (job.Replace slot) spells refl story follows)
-  job_done words job.Rebuild spells mends story works follows =
-      rebuild_done story works
-      (opens_first (λ g. RebuildAll g.n 0 (λ steps. Put (rebuilt_line steps) (Over Done))) words job.Rebuild spells refl story follows)
-  job_done words _ spells mends story works follows = absurd mends
+  job_done : (words : List (List ℕ)) (asked : Job) → Spells words asked → Mends asked → (trace : List TraceItem) → AlongTrace (WorksAll view) trace x y
+      → IsDoneBy (program_of words) trace → IsJobDone asked trace
+  job_done words job.Scrub spells mends trace works follows =
+      scrub_done trace works (opens_first (λ g. scrubs g 0 g.stripes 0) words job.Scrub spells refl trace follows)
+  job_done words (job.Replace slot) spells mends trace works follows =
+      replace_done slot trace works
+      (opens_first (λ g. if_slot g slot (nat_lt slot g.n) (replaces g slot)) words (job.Replace slot) spells refl trace follows)
+  job_done words job.Rebuild spells mends trace works follows =
+      rebuild_done trace works
+      (opens_first (λ g. RebuildAll g.n 0 (λ steps. Put (rebuilt_line steps) (Over Done))) words job.Rebuild spells refl trace follows)
+  job_done words _ spells mends trace works follows = absurd mends
 
 -- the seats that an array was found with, told of a later moment and of another state of its geometry
 found_later : (before h later : List Happening) (s t : State) (seats : Seats) → IsUpTo h later → s.geometry ≡ t.geometry → AreFound NoneReturns before h s seats
@@ -385,9 +385,9 @@ found_later before h later s t seats upto same found = record {
 }
 
 -- the geometry stays over a run
-run_geometry : (before : List Happening) (story : List Deed) (old new : Now) → Runs NoneReturns before story old new → new.state.geometry ≡ old.state.geometry
-run_geometry before story old new runs =
-    life_geometry (turns_of NoneReturns before story old new runs []) old.state new.state (runs_are_lived NoneReturns before story old new [] old.state runs refl)
+run_geometry : (before : List Happening) (trace : List TraceItem) (old new : Now) → Runs NoneReturns before trace old new → new.state.geometry ≡ old.state.geometry
+run_geometry before trace old new runs =
+    life_geometry (turns_of NoneReturns before trace old new runs []) old.state new.state (runs_are_lived NoneReturns before trace old new [] old.state runs refl)
 
 -- ---- the opening
 
@@ -415,21 +415,21 @@ opening_taken before s old new g events left (inr again) same = absurd (let neve
 -- ---- the state in the end
 
 module _ {R W : Type 0} (view : DeviceView R W) (honest : IsTrue view.rack.honest) (s : State) (x y : Devices R W) (begun : x.session ≡ Begun) where
-  -- the story is a run of the machine
-  abbrev IsRunTo : List Deed → Type 0
-  IsRunTo story = IsRun view NoneReturns (history_of view x) (without_seats s) story x y
+  -- the trace is a run of the machine
+  abbrev IsRunTo : List TraceItem → Type 0
+  IsRunTo trace = IsRun view NoneReturns (history_of view x) (without_seats s) trace x y
 
   serves_last : (state : State) (last : ArrayState) → y.session ≡ Opened last → last.stopped ≡ None
       → IsInState NoneReturns (history_of view x) state (seen_of view y) → IsOpenFor NoneReturns (history_of view x) state last (history_of view y)
   serves_last state last opened none is_in =
-      elim (subst (λ (session : Session). ServesState NoneReturns (history_of view x) state session (seen_of view y).told) opened is_in.serves) [
+      elim (subst (λ (session : Phase). ServesState NoneReturns (history_of view x) state session (seen_of view y).told) opened is_in.serves) [
         | inl serves ↦ serves
         | inr stopped ↦ absurd (let never = subst IsSome none stopped in cc)
       ]
 
   -- what is so of the session's array is so of the state
-  run_sound : (asked : Job) (question : Question) (member : Membership) (g : Geometry) (events : List Event) (left : Bool) (rest : List Deed)
-      → Leads (WorksAll view) (opened_story question member g events left rest) x y → IsRunTo (opened_story question member g events left rest)
+  run_sound : (asked : Job) (question : Question) (member : Membership) (g : Geometry) (events : List Event) (left : Bool) (rest : List TraceItem)
+      → AlongTrace (WorksAll view) (opened_trace question member g events left rest) x y → IsRunTo (opened_trace question member g events left rest)
       → AreDone rest → EndsMended asked y.session (history_of view x) (history_of view y)
       → LeavesSound asked s (history_of view x) (history_of view y)
   run_sound asked question member g events left rest works run done ends =
@@ -441,7 +441,7 @@ module _ {R W : Type 0} (view : DeviceView R W) (honest : IsTrue view.rack.hones
       let opening = opening_taken (history_of view x) s run.runs.2.2.2.0 runs.0 g events left runs.1 (ap (λ (t : State). t.geometry) so_far) in
       let serves = serves_last run.state ends.array ends.opened ends.unstopped run.is_in in
       let state_same : run.state.geometry ≡ s.geometry =
-      run_geometry (history_of view x) (opened_story question member g events left rest) (now (without_seats s) (history_of view x) None) end run.runs in
+      run_geometry (history_of view x) (opened_trace question member g events left rest) (now (without_seats s) (history_of view x) None) end run.runs in
       let same : ends.array.member.array.geometry ≡ s.geometry = serves.geometry ∙ state_same in
       record {
         state = run.state;
@@ -454,8 +454,8 @@ module _ {R W : Type 0} (view : DeviceView R W) (honest : IsTrue view.rack.hones
             (runs_upto NoneReturns (history_of view x) rest runs.0 end runs.2) refl opening.are_found;
         brought_up = λ j below live dead.
             subst (λ (of : Geometry). AreSoundChunks of j (history_of view x) (history_of view y)) same
-            (promoted_sound view honest (opened_story question member g events left rest) x y works ends.array j (ap stands_in begun) ends.opened
-            (has_later (IsPromotionOf j) (opened_story question member g events left []) rest
+            (promoted_sound view honest (opened_trace question member g events left rest) x y works ends.array j (ap stands_in begun) ends.opened
+            (has_later (IsPromotionOf j) (opened_trace question member g events left []) rest
             (run_promoted NoneReturns (history_of view x) j rest runs.0 end opening.seats (seats_in ends.array.member.array) done runs.2 opening.known serves.seats
             (drop_dead (opening.found j) (opening.seats j) (opening.drops j) dead) live)));
         by_job = subst
@@ -464,33 +464,33 @@ module _ {R W : Type 0} (view : DeviceView R W) (honest : IsTrue view.rack.hones
             same (mended_seats (history_of view x) (history_of view y) ends.array ends.rules asked ends.by_job);
       }
 
-  leaves_sound : (asked : Job) (story : List Deed) → Leads (WorksAll view) story x y → IsRunTo story → OpensDone story
+  leaves_sound : (asked : Job) (trace : List TraceItem) → AlongTrace (WorksAll view) trace x y → IsRunTo trace → OpensDone trace
       → EndsMended asked y.session (history_of view x) (history_of view y) → LeavesSound asked s (history_of view x) (history_of view y)
-  leaves_sound asked story works run opens ends =
+  leaves_sound asked trace works run opens ends =
       run_sound asked opens.asked opens.member opens.g opens.events opens.left opens.rest
-      (subst (λ (l : List Deed). Leads (WorksAll view) l x y) opens.is works) (subst IsRunTo opens.is run) opens.done ends
+      (subst (λ (l : List TraceItem). AlongTrace (WorksAll view) l x y) opens.is works) (subst IsRunTo opens.is run) opens.done ends
 
 -- ---- every call
 
 module _ {R W S K : Type 0} (view : DeviceView R W) (streams : Views S K) (words : List (List ℕ)) (asked : Job) (status : Status)
     (a b : Outside S K) (x y : R) (watchers left : List W) (spells : Spells words asked) (mends : Mends asked) (done : status ≡ Done)
     (honest : IsTrue view.rack.honest) where
-  whole_done : (session : Session)
-      → (with : MeansWith view streams (plan_of words) (Over status) a b (devices x Begun watchers) (devices y session left))
-      → IsJobDone view honest (devices x Begun watchers) (devices y session left) refl asked with.means.story
+  whole_done : (session : Phase)
+      → (with : ExecutesWith view streams (program_of words) (Over status) a b (devices x Begun watchers) (devices y session left))
+      → IsJobDone view honest (devices x Begun watchers) (devices y session left) refl asked with.means.trace
   whole_done session with =
-      job_done view honest (devices x Begun watchers) (devices y session left) refl words asked spells mends with.means.story with.works
-      (subst (λ (t : Status). Leads Moves with.means.story (plan_of words) (Over t)) done with.means.follows)
+      job_done view honest (devices x Begun watchers) (devices y session left) refl words asked spells mends with.means.trace with.works
+      (subst (λ (t : Status). AlongTrace StepsProgram with.means.trace (program_of words) (Over t)) done with.means.follows)
 
-  call_mended : MeansWhole view streams (plan_of words) (Over status) a b x y watchers left → (s : State) → IsHistory (view.rack.history x)
+  call_mended : ExecutesWhole view streams (program_of words) (Over status) a b x y watchers left → (s : State) → IsHistory (view.rack.history x)
       → Represents s (view.rack.history x) → ToleratedSince s.geometry (view.rack.history x) (view.rack.history y)
       → NothingReturned (view.rack.history x) (view.rack.history y) → LeavesSound asked s (view.rack.history x) (view.rack.history y)
-  call_mended whole s history represents tolerated returned = by (borne_whole view streams (plan_of words) (Over status) a b x y watchers left whole)
+  call_mended whole s history represents tolerated returned = by (borne_whole view streams (program_of words) (Over status) a b x y watchers left whole)
     where
-      by : IsBorneOut view streams (plan_of words) (Over status) a b x y watchers left → LeavesSound asked s (view.rack.history x) (view.rack.history y)
+      by : RefinesProgram view streams (program_of words) (Over status) a b x y watchers left → LeavesSound asked s (view.rack.history x) (view.rack.history y)
       by borne =
           let so = whole_done borne.session borne.over in
-          leaves_sound view honest s (devices x Begun watchers) (devices y borne.session left) refl asked borne.over.means.story borne.over.works
+          leaves_sound view honest s (devices x Begun watchers) (devices y borne.session left) refl asked borne.over.means.trace borne.over.works
           (borne.runs honest s history represents tolerated returned) so.opens so.ends
 
 pub array_is_mended : (R W S K : Type 0) → ArrayIsMended R W S K

@@ -1,17 +1,17 @@
--- What the plans of commands that open an array do by themselves.
+-- What the programs of commands that open an array do by themselves.
 use Rattle.std.proofs.Common.{◌≢◌, ◌+◌, ℕ, zero, suc, Bool, true, false, List, [], ◌++◌, nat_lt, Result, Ok, Err, arith, refl}
 use Rattle.stair_model.specs.Geometry.{Geometry, block_count}
 use Rattle.stair_array.specs.Machine.{Recover, Refusal}
 use Rattle.stair_array.specs.Machine as array
 use Rattle.stair_status.specs.declared.status.Status.{Status}
 use Rattle.stair_status.specs.declared.status.Status.TheVariants.{Usage, OutOfMemory}
-use Rattle.stair_story.specs.Ending.{AdmitsNone, AdmitsOnce, AllowsAtMost, AsksForNone, EachStep, EndsIn, IsNoFault, PutsLast, TakesNothing}
-use Rattle.stair_story.specs.Plan.{Plan, Over, take_step, unless_refused, if_so}
-use Rattle.stair_story.specs.Refused.{status_of_refusal}
+use Rattle.stair_command.specs.Ending.{AdmitsNone, AdmitsOnce, AllowsAtMost, AsksForNone, EachStep, EndsIn, IsNoFault, PutsLast, TakesNothing}
+use Rattle.stair_command.specs.Program.{Program, Over, take_step, unless_refused, if_so}
+use Rattle.stair_command.specs.Refused.{status_of_refusal}
 use Rattle.stair_status.specs.declared.status.Status.TheVariants.{OutOfRange}
 use Rattle.stair_engine.specs.Blocks.{if_in_range, is_in_range, within_range}
-use Rattle.stair_story.specs.Pieces.{part_of}
-use Rattle.stair_story.specs.Transfers.{reads, writes, wrote}
+use Rattle.stair_command.specs.Pieces.{part_of}
+use Rattle.stair_command.specs.Transfers.{reads, writes, wrote}
 use Rattle.std.specs.Prelude.{max}
 
 -- a fault, Usage and lack of memory are none of a job's own
@@ -31,24 +31,24 @@ refusal_own slots (array.Gone slot) = (((λ is. cc, λ is. cc), λ is. cc), λ i
 refusal_own slots (array.SmallDevice slot has needs) = (((λ is. cc, λ is. cc), λ is. cc), λ is. cc)
 refusal_own slots (array.AlreadyArray slot) = (((λ is. cc, λ is. cc), λ is. cc), λ is. cc)
 
--- ---- what is so of each way that a plan may go
+-- ---- what is so of each way that a program may go
 
-module _ (IsSo : Plan → Type 0) where
-  pub unless_so : {X : Type 0} (slots : ℕ) (k : X → Bool → Plan) → ((given : X) (left : Bool) → IsSo (k given left))
+module _ (IsSo : Program → Type 0) where
+  pub unless_so : {X : Type 0} (slots : ℕ) (k : X → Bool → Program) → ((given : X) (left : Bool) → IsSo (k given left))
       → ((refusal : Refusal) → IsSo (Over (status_of_refusal slots refusal))) → (answer : Result X Refusal) (left : Bool)
       → IsSo (unless_refused slots k answer left)
   unless_so slots k done refused (Ok given) left = done given left
   unless_so slots k done refused (Err refusal) left = refused refusal
 
-  range_so : (g : Geometry) (first count : ℕ) (plan : Plan) → IsSo plan → IsSo (Over (OutOfRange (max first (block_count g)) (block_count g)))
-      → IsSo (within_range g first count plan)
-  range_so g first count plan inside past = by (is_in_range g first count)
+  range_so : (g : Geometry) (first count : ℕ) (program : Program) → IsSo program → IsSo (Over (OutOfRange (max first (block_count g)) (block_count g)))
+      → IsSo (within_range g first count program)
+  range_so g first count program inside past = by (is_in_range g first count)
     where
-      by : (within : Bool) → IsSo (if_in_range g first within plan)
+      by : (within : Bool) → IsSo (if_in_range g first within program)
       by true = inside
       by false = past
 
-  pub left_so : (more end : Plan) → IsSo more → IsSo end → (left : Bool) → IsSo (if_so left more end)
+  pub left_so : (more end : Program) → IsSo more → IsSo end → (left : Bool) → IsSo (if_so left more end)
   left_so more end of_more of_end true = of_more
   left_so more end of_more of_end false = of_end
 
@@ -69,8 +69,8 @@ writes_own g first all (suc turns) done held =
       λ bytes. ((λ is. cc, λ is. cc), λ is. cc),
     ) (wrote_own all) (nat_lt done all)
 
-range_own : (g : Geometry) (first count : ℕ) (plan : Plan) → EndsIn IsOfJob plan → EndsIn IsOfJob (within_range g first count plan)
-range_own g first count plan own = range_so (EndsIn IsOfJob) g first count plan own ((λ is. cc, λ is. cc), λ is. cc)
+range_own : (g : Geometry) (first count : ℕ) (program : Program) → EndsIn IsOfJob program → EndsIn IsOfJob (within_range g first count program)
+range_own g first count program own = range_so (EndsIn IsOfJob) g first count program own ((λ is. cc, λ is. cc), λ is. cc)
 
 -- after the survey
 pub read_own : (n first count : ℕ) (answer : Result Geometry Refusal) (left : Bool)
@@ -157,14 +157,14 @@ writes_allowed n g first all (suc turns) done held =
     ) (λ more. tt, λ none. tt) (nat_lt done all)
 
 -- after the survey
-pub opening_admits_none : (n : ℕ) (k : Geometry → Plan) → ((g : Geometry) → EachStep AdmitsNone (k g)) → EachStep AdmitsNone (take_step n Recover k)
+pub opening_admits_none : (n : ℕ) (k : Geometry → Program) → ((g : Geometry) → EachStep AdmitsNone (k g)) → EachStep AdmitsNone (take_step n Recover k)
 opening_admits_none n k none = (tt, unless_so (EachStep AdmitsNone) n (λ g left. k g) (λ g left. none g) (λ refusal. tt))
 
-pub opening_once : (slot n : ℕ) (k : Geometry → Plan) → ((g : Geometry) → AdmitsOnce slot (k g)) → AdmitsOnce slot (take_step n Recover k)
+pub opening_once : (slot n : ℕ) (k : Geometry → Program) → ((g : Geometry) → AdmitsOnce slot (k g)) → AdmitsOnce slot (take_step n Recover k)
 opening_once slot n k once = unless_so (AdmitsOnce slot) n (λ g left. k g) (λ g left. once g) (λ refusal. tt)
 
 -- one draw for the opening
-pub opening_allowed : (n : ℕ) (k : Geometry → Plan) → ((g : Geometry) → AllowsAtMost 3 (k g)) → AllowsAtMost 4 (take_step n Recover k)
+pub opening_allowed : (n : ℕ) (k : Geometry → Program) → ((g : Geometry) → AllowsAtMost 3 (k g)) → AllowsAtMost 4 (take_step n Recover k)
 opening_allowed n k allows = (3, omega arith, unless_so (AllowsAtMost 3) n (λ g left. k g) (λ g left. allows g) (λ refusal. tt))
 
 pub read_admits_none : (first count : ℕ) (g : Geometry) → EachStep AdmitsNone (within_range g first count (reads g first count))

@@ -15,10 +15,10 @@ use Rattle.stair_member.specs.declared.fault.FenceFault.{FenceFault}
 use Rattle.stair_journal.specs.Gate.{closed_gate, open_gate}
 use Rattle.stair_journal.specs.Journalling.{gate_writes}
 use Rattle.stair_journal.specs.declared.redo.Redo.{Redo}
-use Rattle.stair_session.specs.Courses.{FindsRedo, Point, point}
-use Rattle.stair_session.specs.Session.{IsLiveIn}
-use Rattle.stair_session.proofs.FindsLemmas.{honest_back}
-use Rattle.stair_session.proofs.HonestLemmas.{found_honest, left_honest}
+use Rattle.stair_invariant.specs.Effects.{FindsRedo, Snapshot, snapshot}
+use Rattle.stair_invariant.specs.Session.{IsLiveIn}
+use Rattle.stair_invariant.proofs.FindsLemmas.{honest_back}
+use Rattle.stair_invariant.proofs.HonestLemmas.{found_honest, left_honest}
 use Rattle.stair_array.specs.Calls.{refused}
 use Rattle.stair_array.specs.Machine.{Refusal}
 use Rattle.stair_array.specs.Openings.{ClearsJournal, Recovers}
@@ -28,7 +28,7 @@ use Rattle.stair_array.proofs.PartsLemmas.{IsPart, first_part, live_back}
 use Rattle.stair_engine.proofs.SparedLaws.{Spared, Spares, spared_fenced, spared_left, spared_read, spared_stage}
 
 -- as long as the gate of a slot that is live to x isn't written, it isn't open
-abbrev pub StayClosed : Point → List Happening → Type 0
+abbrev pub StayClosed : Snapshot → List Happening → Type 0
 StayClosed x last = (i : ℕ) (redo : Redo) → IsLiveIn x.member i → (h : List Happening) → Spared i gate_sector x.told.history h → Ran any_call h last
     → ¬ (content ((slot_state h i).sector gate_sector) ≡ Good (open_gate x.member.array.geometry redo))
 
@@ -44,19 +44,19 @@ spared_asked j k asked = ran_weakened leaves asked
     leaves i (Sync answer) is = absurd is
 
 module _ (j k : ℕ) (behind : 2 ≤ k) where
-  spared_found : (redo : Option Redo) (opened : Slots) (refusal : Option FenceFault) (x z : Point) → FindsRedo redo opened refusal x z
+  spared_found : (redo : Option Redo) (opened : Slots) (refusal : Option FenceFault) (x z : Snapshot) → FindsRedo redo opened refusal x z
       → IsTrue z.told.honest → Spared j k x.told.history z.told.history
   spared_found _ _ _ _ _ (FindsRedo.Found gates live mid x are reads none) honest = spared_read j k behind (reads.ran honest)
   spared_found _ _ _ _ _ (FindsRedo.Again gates live mid redo opened refusal i x y z are reads gone leaves rest) honest =
       let after = honest_back y.told z.told (found_honest redo opened refusal y z rest) honest in
-      let first = honest_back mid y.told (left_honest gates.gone None (point x.member mid) y leaves) after in
+      let first = honest_back mid y.told (left_honest gates.gone None (snapshot x.member mid) y leaves) after in
       ran_join (spared_read j k behind (reads.ran first)) (ran_join (spared_left j k behind leaves after) (spared_found redo opened refusal y z rest honest))
   spared_found _ _ _ _ _ (FindsRedo.Stops gates live mid redo opened fault x y are reads leaves) honest =
-      let first = honest_back mid y.told (left_honest gates.gone (Some fault) (point x.member mid) y leaves) honest in
+      let first = honest_back mid y.told (left_honest gates.gone (Some fault) (snapshot x.member mid) y leaves) honest in
       ran_join (spared_read j k behind (reads.ran first)) (spared_left j k behind leaves honest)
 
   -- where there is no redo the gates are closed, and no more
-  spared_closed : (redo : Option Redo) (opened : Slots) (answer : Result Geometry Refusal) (x y : Point) → ClearsJournal redo opened answer x y → redo ≡ None
+  spared_closed : (redo : Option Redo) (opened : Slots) (answer : Result Geometry Refusal) (x y : Snapshot) → ClearsJournal redo opened answer x y → redo ≡ None
       → gate_writes closed_gate j k ≡ None → IsTrue y.told.honest → Spared j k x.told.history y.told.history
   spared_closed _ _ _ _ _ (ClearsJournal.Closes opened live refusal x y are does) none apart honest = spared_stage j k behind apart does honest
   spared_closed _ _ _ _ _ (ClearsJournal.Stops redo opened body was stripe fault x y found) none apart honest = absurd (let never : Some redo ≡ None = none in cc)
@@ -66,7 +66,7 @@ module _ (j k : ℕ) (behind : 2 ≤ k) where
       absurd (let never : Some redo ≡ None = none in cc)
 
 -- no redo is found
-none_found : (fallen opened : Slots) (redo : Option Redo) (x y z : Point) (last : List Happening) → Fences no_slots x.member y.member (Ok fallen) x.told y.told
+none_found : (fallen opened : Slots) (redo : Option Redo) (x y z : Snapshot) (last : List Happening) → Fences no_slots x.member y.member (Ok fallen) x.told y.told
     → FindsRedo redo opened None y z → IsMembership x.member → IsTrue z.told.honest → Ran any_call z.told.history last → StayClosed x last → redo ≡ None
 none_found fallen opened None x y z last fences found rules honest later closed = refl
 none_found fallen opened (Some redo) x y z last fences found rules honest later closed =
@@ -88,7 +88,7 @@ none_found fallen opened (Some redo) x y z last fences found rules honest later 
         (subst (λ (g : Geometry). content ((slot_state read.moment gate.gate).sector gate_sector) ≡ Good (open_gate g redo)) first.geometry read.found)
 
 -- a sector after the superblocks that is no gate
-pub opening_spares : (answer : Result Geometry Refusal) (g : Geometry) (x w : Point) → Recovers answer x w → answer ≡ Ok g → IsMembership x.member
+pub opening_spares : (answer : Result Geometry Refusal) (g : Geometry) (x w : Snapshot) → Recovers answer x w → answer ≡ Ok g → IsMembership x.member
     → IsTrue w.told.honest → StayClosed x w.told.history → (j k : ℕ) → 2 ≤ k → gate_writes closed_gate j k ≡ None
     → Spared j k x.told.history w.told.history
 opening_spares _ g _ _ (Recovers.NoEpoch fault x y e) is = absurd (let never : Err (refused fault) ≡ Ok g = is in cc)

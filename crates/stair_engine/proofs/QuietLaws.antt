@@ -11,7 +11,7 @@ use Rattle.stair_rack.specs.Media.{Image}
 use Rattle.stair_rack.specs.Offline.{IsOffline, WasPulled}
 use Rattle.stair_rack.specs.Sector.{Good}
 use Rattle.stair_rack.specs.Stretch.{NothingDamaged, NothingReturned}
-use Rattle.stair_rack.specs.Telling.{Telling}
+use Rattle.stair_rack.specs.RackState.{RackState}
 use Rattle.stair_rack.proofs.MomentLemmas.{ran_none}
 use Rattle.stair_super.specs.Superblock.{Superblock}
 use Rattle.stair_member.specs.Current.{IsCurrent, IsLive}
@@ -35,7 +35,7 @@ some_unless : (size : Option ℕ) → (size ≡ None → ⊥) → IsSome size
 some_unless None never = absurd (never refl)
 some_unless (Some n) never = refl
 
-module _ (s : State) (old new : Telling) (f : Findings) (found : AreFound f old new) (honest : IsTrue new.honest) (is : IsHistory old.history)
+module _ (s : State) (old new : RackState) (f : Findings) (found : AreFound f old new) (honest : IsTrue new.honest) (is : IsHistory old.history)
     (ran : Ran no_write old.history new.history) (stands : Represents s old.history) (none : NothingReturned old.history new.history)
     (tolerated : ToleratedSince s.geometry old.history new.history) (undamaged : NothingDamaged old.history new.history)
     (unpulled : (j : ℕ) → IsSome (slot_state old.history j).size → ¬ WasPulled old.history new.history j) where

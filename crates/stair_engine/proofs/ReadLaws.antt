@@ -1,27 +1,27 @@
 -- The loop of `read`: what is so before each block.
 use Rattle.std.proofs.Common.{◌≡◌, ◌∙◌, ◌+◌, ◌-◌, ◌<◌, ◌≤◌, ℕ, suc, List, Ok, Err, Result, ap, arith, refl, subst, sym}
 use Rattle.stair_model.specs.Geometry.{Geometry}
-use Rattle.stair_session.specs.Session.{ArrayState}
+use Rattle.stair_invariant.specs.Session.{ArrayState}
 use Rattle.stair_array.specs.Arrays.{answer_as}
 use Rattle.stair_array.specs.Faults.{refusal_for}
 use Rattle.stair_array.specs.Machine.{ReadBlock}
 use Rattle.stair_array.specs.Promise.{Opened}
 use Rattle.stair_array.specs.declared.fault.ArrayFault.{ArrayFault}
-use Rattle.stair_story.specs.Devices.{DeviceView, MeansWith, devices}
-use Rattle.stair_story.specs.Means.{Holds}
-use Rattle.stair_story.specs.Outside.{Views, outside}
-use Rattle.stair_story.specs.Plan.{Plan, Over, Put, take_step}
-use Rattle.stair_story.specs.Refused.{status_of_refusal}
-use Rattle.stair_story.specs.Steps.{Takes}
-use Rattle.stair_story.specs.Story.{HasPut, IsPart, PutFailed}
+use Rattle.stair_command.specs.Devices.{DeviceView, ExecutesWith, devices}
+use Rattle.stair_command.specs.Executes.{Holds}
+use Rattle.stair_command.specs.Outside.{Views, outside}
+use Rattle.stair_command.specs.Program.{Program, Over, Put, take_step}
+use Rattle.stair_command.specs.Refused.{status_of_refusal}
+use Rattle.stair_command.specs.Steps.{Takes}
+use Rattle.stair_command.specs.Trace.{HasPut, IsPart, PutFailed}
 use Rattle.stair_status.specs.declared.status.Status.TheVariants.{Done, OutputFault}
-use Rattle.stair_story.proofs.DeviceLaws.{with_none, with_part, with_put, with_refusal, with_step, with_then}
-use Rattle.stair_story.proofs.TakenLaws.{taken_geometry}
+use Rattle.stair_command.proofs.DeviceLaws.{with_none, with_part, with_put, with_refusal, with_step, with_then}
+use Rattle.stair_command.proofs.TakenLaws.{taken_geometry}
 use Rattle.stair_watch.specs.WatcherList.{AllStay}
-use Rattle.stair_story.specs.Transfers.{reads}
+use Rattle.stair_command.specs.Transfers.{reads}
 
 -- after the bytes of a block
-abbrev read_on : Geometry → ℕ → ℕ → List ℕ → Plan
+abbrev read_on : Geometry → ℕ → ℕ → List ℕ → Program
 read_on g first count bytes = Put bytes (reads g first count)
 
 -- one block more
@@ -38,7 +38,7 @@ module _ {R W K : Type 0} (view : DeviceView R W) (streams : Views (Unit {0}) K)
       (now : R) (open_now : ArrayState) (left : List W) (held : K) : Type 0 where
     pub geometry : open_now.member.array.geometry ≡ g
     pub stay : AllStay view.watcher left
-    pub means : (counter : ℕ) → MeansWith view streams (reads g first blocks) (reads g (first + done) (blocks - done)) (outside tt sink counter)
+    pub means : (counter : ℕ) → ExecutesWith view streams (reads g first blocks) (reads g (first + done) (blocks - done)) (outside tt sink counter)
         (outside tt held counter) (devices rack (Opened array) watchers) (devices now (Opened open_now) left)
 
   pub none_read : (g : Geometry) (first blocks : ℕ) (rack : R) (array : ArrayState) (watchers : List W) (sink : K) → array.member.array.geometry ≡ g
@@ -49,14 +49,14 @@ module _ {R W K : Type 0} (view : DeviceView R W) (streams : Views (Unit {0}) K)
     means = λ counter.
         let from : first ≡ first + 0 = omega arith in
         let many : blocks ≡ blocks - 0 = omega arith in
-        subst (λ (rest : Plan). MeansWith view streams (reads g first blocks) rest (outside tt sink counter) (outside tt sink counter) (devices rack (Opened array) watchers) (devices rack (Opened array) watchers))
+        subst (λ (rest : Program). ExecutesWith view streams (reads g first blocks) rest (outside tt sink counter) (outside tt sink counter) (devices rack (Opened array) watchers) (devices rack (Opened array) watchers))
         (λ i. reads g (from i) (many i)) (with_none view streams (reads g first blocks) (outside tt sink counter) (devices rack (Opened array) watchers));
   }
 
   module _ (g : Geometry) (first blocks done : ℕ) (rack now next : R) (array is after : ArrayState) (watchers left rest : List W) (sink held later : K)
       (so_far : ReadSoFar g first blocks done rack array watchers sink now is left held) (below : done < blocks) where
-    abbrev Comes : ArrayState → R → List W → K → Plan → Type 0
-    Comes last r ws k plan = (counter : ℕ) → MeansWith view streams (reads g first blocks) plan (outside tt sink counter) (outside tt k counter)
+    abbrev Comes : ArrayState → R → List W → K → Program → Type 0
+    Comes last r ws k program = (counter : ℕ) → ExecutesWith view streams (reads g first blocks) program (outside tt sink counter) (outside tt k counter)
         (devices rack (Opened array) watchers) (devices r (Opened last) ws)
 
     done_of : (bytes : List ℕ) (result : Result (Unit {0}) ArrayFault) → result ≡ Ok tt
@@ -70,7 +70,7 @@ module _ {R W K : Type 0} (view : DeviceView R W) (streams : Views (Unit {0}) K)
         → Comes after next rest held (read_on g (first + (done + 1)) (blocks - (done + 1)) bytes)
     was_read bytes takes counter =
         with_then view streams (so_far.means counter)
-        (subst (λ (plan : Plan). MeansWith view streams plan (read_on g (first + (done + 1)) (blocks - (done + 1)) bytes) (outside tt held counter) (outside tt held counter)
+        (subst (λ (program : Program). ExecutesWith view streams program (read_on g (first + (done + 1)) (blocks - (done + 1)) bytes) (outside tt held counter) (outside tt held counter)
         (devices now (Opened is) left) (devices next (Opened after) rest)) (sym (reads_next g first blocks done below))
         (with_step view streams g.n (ReadBlock (first + done)) bytes (read_on g (first + (done + 1)) (blocks - (done + 1))) (outside tt held counter) _ _ takes))
 
@@ -100,9 +100,9 @@ module _ {R W K : Type 0} (view : DeviceView R W) (streams : Views (Unit {0}) K)
         → Comes after next rest held (Over (status_of_refusal slots (refusal_for fault)))
     read_refused bytes result fault slots err same takes counter =
         with_then view streams (so_far.means counter)
-        (subst (λ (plan : Plan). MeansWith view streams plan (Over (status_of_refusal slots (refusal_for fault))) (outside tt held counter) (outside tt held counter)
+        (subst (λ (program : Program). ExecutesWith view streams program (Over (status_of_refusal slots (refusal_for fault))) (outside tt held counter) (outside tt held counter)
         (devices now (Opened is) left) (devices next (Opened after) rest)) (sym (reads_next g first blocks done below))
-        (subst (λ (n : ℕ). MeansWith view streams (take_step g.n (ReadBlock (first + done)) (read_on g (first + (done + 1)) (blocks - (done + 1))))
+        (subst (λ (n : ℕ). ExecutesWith view streams (take_step g.n (ReadBlock (first + done)) (read_on g (first + (done + 1)) (blocks - (done + 1))))
         (Over (status_of_refusal n (refusal_for fault))) (outside tt held counter) (outside tt held counter) (devices now (Opened is) left) (devices next (Opened after) rest))
         (sym same)
         (with_refusal view streams g.n (ReadBlock (first + done)) (refusal_for fault) (read_on g (first + (done + 1)) (blocks - (done + 1))) (outside tt held counter) _ _
@@ -111,9 +111,9 @@ module _ {R W K : Type 0} (view : DeviceView R W) (streams : Views (Unit {0}) K)
   -- all were
   pub all_read : (g : Geometry) (first blocks done : ℕ) (rack now : R) (array is : ArrayState) (watchers left : List W) (sink held : K)
       → ReadSoFar g first blocks done rack array watchers sink now is left held → blocks ≤ done
-      → (counter : ℕ) → MeansWith view streams (reads g first blocks) (Over Done) (outside tt sink counter) (outside tt held counter)
+      → (counter : ℕ) → ExecutesWith view streams (reads g first blocks) (Over Done) (outside tt sink counter) (outside tt held counter)
       (devices rack (Opened array) watchers) (devices now (Opened is) left)
   all_read g first blocks done rack now array is watchers left sink held so_far past counter =
       let none : blocks - done ≡ 0 = omega (arith, past) in
-      subst (λ (count : ℕ). MeansWith view streams (reads g first blocks) (reads g (first + done) count) (outside tt sink counter) (outside tt held counter)
+      subst (λ (count : ℕ). ExecutesWith view streams (reads g first blocks) (reads g (first + done) count) (outside tt sink counter) (outside tt held counter)
       (devices rack (Opened array) watchers) (devices now (Opened is) left)) none (so_far.means counter)

@@ -1,37 +1,37 @@
--- What the plan of a report does by itself, and that it is sure where its text tells events alone.
+-- What the program of a report does by itself, and that it is sure where its text tells events alone.
 use Rattle.std.proofs.Common.{◌+◌, ◌≤◌, ◌++◌, ℕ, zero, suc, nat_lt, List, [], ◌∷◌, All, Option, None, Some, arith, length, refl}
 use Rattle.std.proofs.lemmas.List.Elements.{All-cons, All-nil}
 use Rattle.stair_rack.specs.declared.watcher.Event.{Event}
 use Rattle.stair_script.specs.Events.{SpellsEvent}
 use Rattle.stair_monitor.proofs.EventLemmas.{spells-length}
 use Rattle.stair_monitor.proofs.ReadLemmas.{spells-inner}
-use Rattle.stair_monitor.specs.Reports.{EVENT_LIMIT, event_taken, if_event, report_over, report_plan, reports}
+use Rattle.stair_monitor.specs.Reports.{EVENT_LIMIT, event_taken, if_event, report_over, report_program, reports}
 use Rattle.stair_state.specs.State.{State}
-use Rattle.stair_story.specs.Ending.{AsksFirst, EndsIn, MakesNoCall, PutsLast}
-use Rattle.stair_story.specs.Means.{Means}
-use Rattle.stair_story.specs.Outside.{Outside, Views}
-use Rattle.stair_story.specs.Plan.{Plan, Over, Ask, Take}
-use Rattle.stair_story.specs.Story.{Deed, Leads, Moves}
-use Rattle.stair_story.specs.Question.{EventLine, IsReply}
-use Rattle.stair_story.specs.Sure.{HasNoFault, IsDone, IsSure}
-use Rattle.stair_story.specs.Texts.{AreLines, SCRIPT_LIMIT, ends_line, last_of}
+use Rattle.stair_command.specs.Ending.{AsksFirst, EndsIn, MakesNoCall, PutsLast}
+use Rattle.stair_command.specs.Executes.{Executes}
+use Rattle.stair_command.specs.Outside.{Outside, Views}
+use Rattle.stair_command.specs.Program.{Program, Over, Ask, Take}
+use Rattle.stair_command.specs.Trace.{TraceItem, AlongTrace, StepsProgram}
+use Rattle.stair_command.specs.Question.{EventLine, IsReply}
+use Rattle.stair_command.specs.Sure.{HasNoFault, IsDone, Completes}
+use Rattle.stair_command.specs.Texts.{AreLines, SCRIPT_LIMIT, ends_line, last_of}
 use Rattle.stair_status.specs.declared.status.Status.{Status}
 use Rattle.stair_status.specs.declared.status.Status.TheVariants.{BadLine, Input}
-use Rattle.stair_story.proofs.RackLaws.{IsOffDevices, no_call_moves}
-use Rattle.stair_story.proofs.SureLaws.{CarriesOn, ends_done}
-use Rattle.stair_story.proofs.TextSureLaws.{AreShort, IsOfText, text_so}
+use Rattle.stair_command.proofs.RackLaws.{IsOffDevices, no_call_moves}
+use Rattle.stair_command.proofs.SureLaws.{CarriesOn, ends_done}
+use Rattle.stair_command.proofs.TextSureLaws.{AreShort, IsOfText, text_so}
 use Rattle.stair_engine.proofs.OpenLaws.{IsOfJob, left_so}
 
--- What is so of the plan of a report, if it is so of each node by what comes after.
-pub record IsOfReport (IsSo : Plan → Type 0) : Type 0 where
+-- What is so of the program of a report, if it is so of each node by what comes after.
+pub record IsOfReport (IsSo : Program → Type 0) : Type 0 where
   pub long : IsSo (Over (Input SCRIPT_LIMIT (SCRIPT_LIMIT + 1)))
   pub bad : (number : ℕ) → IsSo (Over (BadLine number))
   pub over : (events : List Event) → IsSo (report_over events)
-  pub asks : (bytes : List ℕ) (k : Option Event → Plan) → ((reply : Option Event) → IsSo (k reply)) → IsSo (Ask (EventLine bytes) k)
-  pub takes : (k short : List ℕ → Plan) → ((bytes : List ℕ) → IsSo (k bytes)) → ((bytes : List ℕ) → IsSo (short bytes)) → IsSo (Take 1 1 k short)
+  pub asks : (bytes : List ℕ) (k : Option Event → Program) → ((reply : Option Event) → IsSo (k reply)) → IsSo (Ask (EventLine bytes) k)
+  pub takes : (k short : List ℕ → Program) → ((bytes : List ℕ) → IsSo (k bytes)) → ((bytes : List ℕ) → IsSo (short bytes)) → IsSo (Take 1 1 k short)
 
-module _ (IsSo : Plan → Type 0) (nodes : IsOfReport IsSo) where
-  line_so : (number : ℕ) (line : List ℕ) (events : List Event) (rest : List Event → Plan) → ((events : List Event) → IsSo (rest events))
+module _ (IsSo : Program → Type 0) (nodes : IsOfReport IsSo) where
+  line_so : (number : ℕ) (line : List ℕ) (events : List Event) (rest : List Event → Program) → ((events : List Event) → IsSo (rest events))
       → IsSo (event_taken number line events rest)
   line_so number line events rest so = nodes.asks line (if_event number events rest) by
     where
@@ -51,10 +51,10 @@ module _ (IsSo : Plan → Type 0) (nodes : IsOfReport IsSo) where
       (left_so IsSo _ _ (reports_so room number (line ++ byte) events) (nodes.bad number) (nat_lt (length line) EVENT_LIMIT)) (ends_line byte))
       (λ none. last_so number line events)
 
-  pub report_so : IsSo report_plan
+  pub report_so : IsSo report_program
   report_so = reports_so SCRIPT_LIMIT 1 [] []
 
-pub report_own : EndsIn IsOfJob report_plan
+pub report_own : EndsIn IsOfJob report_program
 report_own = report_so (EndsIn IsOfJob) (record {
   long = ((λ is. cc, λ is. cc), λ is. cc);
   bad = λ number. ((λ is. cc, λ is. cc), λ is. cc);
@@ -63,7 +63,7 @@ report_own = report_so (EndsIn IsOfJob) (record {
   takes = λ k short behind end. (behind, end);
 })
 
-pub report_last : PutsLast report_plan
+pub report_last : PutsLast report_program
 report_last = report_so PutsLast (record {
   long = tt;
   bad = λ number. tt;
@@ -72,7 +72,7 @@ report_last = report_so PutsLast (record {
   takes = λ k short behind end. (behind, end);
 })
 
-pub report_first : AsksFirst report_plan
+pub report_first : AsksFirst report_program
 report_first = report_so AsksFirst (record {
   long = tt;
   bad = λ number. tt;
@@ -81,7 +81,7 @@ report_first = report_so AsksFirst (record {
   takes = λ k short behind end. (behind, end);
 })
 
-pub report_calls_none : MakesNoCall report_plan
+pub report_calls_none : MakesNoCall report_program
 report_calls_none = report_so MakesNoCall (record {
   long = tt;
   bad = λ number. tt;
@@ -99,10 +99,10 @@ events_short = record {
 }
 
 module _ (s : State) where
-  abbrev IsSureSo : Plan → Option (List ℕ) → Type 0
-  IsSureSo plan left = IsSure [] plan s left
+  abbrev CompletesSo : Program → Option (List ℕ) → Type 0
+  CompletesSo program left = Completes [] program s left
 
-  sure_nodes : IsOfText SpellsEvent event_taken report_over (λ said. Unit {0}) IsSureSo
+  sure_nodes : IsOfText SpellsEvent event_taken report_over (λ said. Unit {0}) CompletesSo
   sure_nodes = record {
     over = λ events. refl;
     takes = λ k short told behind end. (behind, end);
@@ -110,16 +110,16 @@ module _ (s : State) where
         read_so number bytes said events rest left spells so;
   }
     where
-      read_so : (number : ℕ) (bytes : List ℕ) (said : Event) (events : List Event) (rest : List Event → Plan) (left : Option (List ℕ))
-          → SpellsEvent bytes said → ((events : List Event) → IsSureSo (rest events) left) → (reply : Option Event) → IsReply (EventLine bytes) reply
-          → IsSureSo (if_event number events rest reply) left
+      read_so : (number : ℕ) (bytes : List ℕ) (said : Event) (events : List Event) (rest : List Event → Program) (left : Option (List ℕ))
+          → SpellsEvent bytes said → ((events : List Event) → CompletesSo (rest events) left) → (reply : Option Event) → IsReply (EventLine bytes) reply
+          → CompletesSo (if_event number events rest reply) left
       read_so number bytes said events rest left spells so None is = absurd (is said spells)
       read_so number bytes said events rest left spells so (Some other) is = so (other ∷ events)
 
   pub report_sure : (events : List Event) (input : List ℕ) → AreLines SpellsEvent events input → length input ≤ SCRIPT_LIMIT
-      → IsSure [] report_plan s (Some input)
+      → Completes [] report_program s (Some input)
   report_sure events input are few =
-      text_so SpellsEvent EVENT_LIMIT events_short event_taken report_over (λ said. Unit {0}) IsSureSo sure_nodes SCRIPT_LIMIT input [] events are
+      text_so SpellsEvent EVENT_LIMIT events_short event_taken report_over (λ said. Unit {0}) CompletesSo sure_nodes SCRIPT_LIMIT input [] events are
       (all_any events) few
     where
       all_any : (events : List Event) → All (λ said. Unit {0}) events
@@ -129,37 +129,37 @@ module _ (s : State) where
 -- ---- it is done
 
 -- no array is looked for, made or opened
-abbrev AllOff : List Deed → Type 0
+abbrev AllOff : List TraceItem → Type 0
 AllOff [] = Unit {0}
-AllOff (deed ∷ story) = IsOffDevices deed × AllOff story
+AllOff (item ∷ trace) = IsOffDevices item × AllOff trace
 
-off_story : (story : List Deed) (plan rest : Plan) → MakesNoCall plan → Leads Moves story plan rest → AllOff story
-off_story [] plan rest none follows = tt
-off_story (deed ∷ story) plan rest none follows =
-    let one = no_call_moves deed plan follows.0 none follows.1 in (one.0, off_story story follows.0 rest one.1 follows.2)
+off_trace : (trace : List TraceItem) (program rest : Program) → MakesNoCall program → AlongTrace StepsProgram trace program rest → AllOff trace
+off_trace [] program rest none follows = tt
+off_trace (item ∷ trace) program rest none follows =
+    let one = no_call_moves item program follows.0 none follows.1 in (one.0, off_trace trace follows.0 rest one.1 follows.2)
 
 -- so nothing need be known of a rack
-abbrev Anyhow : Deed → Unit {0} → Unit {0} → Type 0
-Anyhow deed x y = Unit {0}
+abbrev Anyhow : TraceItem → Unit {0} → Unit {0} → Type 0
+Anyhow item x y = Unit {0}
 
-anyhow : (story : List Deed) → Leads Anyhow story tt tt
+anyhow : (trace : List TraceItem) → AlongTrace Anyhow trace tt tt
 anyhow [] = refl
-anyhow (deed ∷ story) = (tt, tt, anyhow story)
+anyhow (item ∷ trace) = (tt, tt, anyhow trace)
 
-abbrev IsOff : List ℕ → State → (story : List Deed) → (x y : Unit {0}) → Leads Anyhow story x y → Type 0
-IsOff counted s story x y works = AllOff story
+abbrev IsOff : List ℕ → State → (trace : List TraceItem) → (x y : Unit {0}) → AlongTrace Anyhow trace x y → Type 0
+IsOff counted s trace x y works = AllOff trace
 
 off_carries : CarriesOn Anyhow IsOff
 off_carries = record {
-  still = λ counted s deed story x y works off ready. ready.1;
-  found = λ counted s came story x y works ready. absurd ready.0;
-  stepped = λ counted s step answer events left story x y works passes ready. absurd ready.0;
+  still = λ counted s item trace x y works off ready. ready.1;
+  found = λ counted s came trace x y works ready. absurd ready.0;
+  stepped = λ counted s step answer events left trace x y works passes ready. absurd ready.0;
 }
 
-module _ {S K : Type 0} (streams : Views S K) (plan : Plan) (status : Status) (a b : Outside S K) where
-  -- a plan that makes no call is done where it is sure, in whatever state
-  pub callless_done : Means streams plan (Over status) a b → MakesNoCall plan → HasNoFault streams a b → (s : State)
-      → IsSure [] plan s (streams.source.left a.source) → IsDone status
+module _ {S K : Type 0} (streams : Views S K) (program : Program) (status : Status) (a b : Outside S K) where
+  -- a program that makes no call is done where it is sure, in whatever state
+  pub callless_done : Executes streams program (Over status) a b → MakesNoCall program → HasNoFault streams a b → (s : State)
+      → Completes [] program s (streams.source.left a.source) → IsDone status
   callless_done means calls none s sure =
-      ends_done Anyhow IsOff off_carries streams [] means.story plan status s tt tt (anyhow means.story) a.source b.source a.sink b.sink means.follows
-      means.bears.gives means.bears.holds none.source none.sink (off_story means.story plan (Over status) calls means.follows) sure
+      ends_done Anyhow IsOff off_carries streams [] means.trace program status s tt tt (anyhow means.trace) a.source b.source a.sink b.sink means.follows
+      means.bears.gives means.bears.holds none.source none.sink (off_trace means.trace program (Over status) calls means.follows) sure

@@ -12,9 +12,9 @@ use Rattle.stair_model.specs.CellSet.{CellSet, HasCell}
 use Rattle.stair_status.specs.declared.status.Status.{Status}
 use Rattle.stair_status.specs.declared.status.Status.TheVariants.{Done, NotCodeword, NoCodeword, Limit, Input, Lost}
 use Rattle.stair_conf.specs.declared.job.StripeCommand.TheVariants.{Restore}
-use Rattle.stair_story.specs.Answer.{HasBytes, IsAnswer, IsJudged, cell_bytes, map_bytes}
+use Rattle.stair_command.specs.Answer.{HasBytes, IsAnswer, IsJudged, cell_bytes, map_bytes}
 use Rattle.stair_engine.specs.Laws.{DifferAtErased, cell_of_input}
-use Rattle.stair_story.specs.Restore.{HoldsCells, IsErasedBy, JudgesErased}
+use Rattle.stair_command.specs.Restore.{HoldsCells, IsErasedBy, JudgesErased}
 use Rattle.stair_model.proofs.StripeLaws.{number_in}
 use Rattle.stair_engine.proofs.CellLaws.{length-cells}
 

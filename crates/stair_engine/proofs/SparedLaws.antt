@@ -28,9 +28,9 @@ use Rattle.stair_journal.specs.declared.redo.Redo.{Redo}
 use Rattle.stair_stripes.specs.Placing.{cell_writes}
 use Rattle.stair_state.specs.Redoing as stage
 use Rattle.stair_state.specs.Redoing.{Stage}
-use Rattle.stair_session.specs.Courses as course
-use Rattle.stair_session.specs.Courses.{DoesStage, LeavesOut, Loads, Point, Redoes, point, stage_writes}
-use Rattle.stair_session.proofs.HonestLemmas.{left_honest, redo_honest}
+use Rattle.stair_invariant.specs.Effects as course
+use Rattle.stair_invariant.specs.Effects.{DoesStage, FencesGone, Loads, Snapshot, Redoes, snapshot, stage_writes}
+use Rattle.stair_invariant.proofs.HonestLemmas.{left_honest, redo_honest}
 use Rattle.stair_array.specs.Machine.{Refusal}
 use Rattle.stair_array.specs.Mends as mends
 use Rattle.stair_array.specs.Mends.{Scrubs}
@@ -83,25 +83,25 @@ module _ (j k : ℕ) where
     spares_issuing i call (AWrite e l answer slot among formed place is) = subst (Spares j k i) (sym is) (λ same sector. omega (arith, place, sector, behind))
     spares_issuing i call (ASync answer slot is) = subst (Spares j k i) (sym is) tt
 
-    pub spared_fenced : {leaving : Slots} {x y : Point} {answer : Result Slots FenceFault} → Fences leaving x.member y.member answer x.told y.told
+    pub spared_fenced : {leaving : Slots} {x y : Snapshot} {answer : Result Slots FenceFault} → Fences leaving x.member y.member answer x.told y.told
         → IsTrue y.told.honest → Spared x.told.history y.told.history
     spared_fenced fences honest = ran_weakened (spares_issuing) (fences.establishes.issued honest).ran
 
-    pub spared_left : {gone : Slots} {refusal : Option FenceFault} {x y : Point} → LeavesOut gone refusal x y → IsTrue y.told.honest
+    pub spared_left : {gone : Slots} {refusal : Option FenceFault} {x y : Snapshot} → FencesGone gone refusal x y → IsTrue y.told.honest
         → Spared x.told.history y.told.history
     spared_left {x = x} {y = y} (course.NoneWas none same quiet) honest =
-        subst (λ (p : Point). Spared x.told.history p.told.history) (sym same) (ran_none {allowed = Spares j k} x.told.history)
+        subst (λ (p : Snapshot). Spared x.told.history p.told.history) (sym same) (ran_none {allowed = Spares j k} x.told.history)
     spared_left (course.Fenced i has answer is fences) honest = spared_fenced fences honest
 
     -- ---- the stages of a redo
 
-    pub spared_stage : {what : Writes} {to : Slots} {refusal : Option FenceFault} {x y : Point} → what j k ≡ None → (does : DoesStage what to refusal x y)
+    pub spared_stage : {what : Writes} {to : Slots} {refusal : Option FenceFault} {x y : Snapshot} → what j k ≡ None → (does : DoesStage what to refusal x y)
         → IsTrue y.told.honest → Spared x.told.history y.told.history
     spared_stage none does honest =
         let honest_mid : IsTrue does.mid.honest = subst IsTrue (sym (left_honest _ _ _ _ does.leaves)) honest in
         ran_join (spared_placed none (does.phase.placed honest_mid)) (spared_left does.leaves honest)
 
-    spared_redo : {g : Geometry} {redo : Redo} {stripe : Stripe} {s : Stage} {refusal : Option FenceFault} {x y : Point}
+    spared_redo : {g : Geometry} {redo : Redo} {stripe : Stripe} {s : Stage} {refusal : Option FenceFault} {x y : Snapshot}
         → ((s : Stage) → stage_writes g redo stripe s j k ≡ None) → (does : Redoes g redo stripe s refusal x y) → IsTrue y.told.honest
         → Spared x.told.history y.told.history
     spared_redo none (course.Ends x) honest = ran_none {allowed = Spares j k} x.told.history
@@ -113,7 +113,7 @@ module _ (j k : ℕ) where
     pub spared_read : {slots sectors : ℕ → Type 0} {old new : List Happening} → Ran (IsReadOf slots sectors) old new → Spared old new
     spared_read {slots} {sectors} reads = ran_weakened (spares_read slots sectors) reads
 
-    spared_loaded : {t : ℕ} {wanted : ℕ → ℕ → Type 0} {gathered : _} {was into : Stripe} {refusal : Option FenceFault} {x y : Point}
+    spared_loaded : {t : ℕ} {wanted : ℕ → ℕ → Type 0} {gathered : _} {was into : Stripe} {refusal : Option FenceFault} {x y : Snapshot}
         → (loads : Loads t wanted gathered was into refusal x y) → IsTrue y.told.honest → Spared x.told.history y.told.history
     spared_loaded loads honest =
         let honest_mid : IsTrue loads.mid.honest = subst IsTrue (sym (left_honest _ _ _ _ loads.leaves)) honest in
@@ -171,7 +171,7 @@ module _ (g : Geometry) (t row j : ℕ) (inside : row < g.r) where
   stage_none redo stripe formed some other stage.InPlace = gate_none _
   stage_none redo stripe formed some other stage.Done = refl
 
-  pub spared_scrub : (u : ℕ) (answer : Result ℕ Refusal) (x y : Point) → Scrubs u answer x y → x.member.array.geometry ≡ g → 0 < g.n → u ≢ t
+  pub spared_scrub : (u : ℕ) (answer : Result ℕ Refusal) (x y : Snapshot) → Scrubs u answer x y → x.member.array.geometry ≡ g → 0 < g.n → u ≢ t
       → IsTrue y.told.honest → Spared j (cell_sector g t row) x.told.history y.told.history
   spared_scrub u _ _ _ (mends.OutOf x past) same some other honest = ran_none {allowed = Spares j (cell_sector g t row)} x.told.history
   spared_scrub u _ _ _ (mends.Stops was read gathered fault x y within loads) same some other honest =

@@ -1,4 +1,4 @@
--- The deeds of `create` and of `show`, one after the other.
+-- The items of `create` and of `show`, one after the other.
 use Rattle.std.proofs.Common.{◌≡◌, ◌≢◌, ◌∙◌, ℕ, ◌+◌, List, [], Result, Ok, Err, take, refl, sym, ap, subst, arith, length-take}
 use Rattle.std.specs.Result.{IsErrAnd}
 use Rattle.stair_model.specs.Geometry.{Geometry}
@@ -6,24 +6,24 @@ use Rattle.stair_member.specs.Membership.{Membership}
 use Rattle.stair_conf.specs.Config.{TextReadsAs}
 use Rattle.stair_conf.specs.declared.fault.ConfigFault.{ConfigFault}
 use Rattle.stair_conf.specs.declared.fault.ConfigFault.TheVariants as config
-use Rattle.stair_story.specs.Action.{Create, Outcome, Survey}
-use Rattle.stair_story.specs.declared.fault.Fault.{Fault}
-use Rattle.stair_story.specs.declared.fault.Fault.TheVariants as fault
+use Rattle.stair_command.specs.Action.{Create, Outcome, Survey}
+use Rattle.stair_command.specs.declared.fault.Fault.{Fault}
+use Rattle.stair_command.specs.declared.fault.Fault.TheVariants as fault
 use Rattle.stair_status.specs.declared.status.Status.{Status}
 use Rattle.stair_status.specs.declared.status.Status.TheVariants.{Done, Input, InputFault}
-use Rattle.stair_story.specs.Fault.{status_of, status_of_config, status_of_fault}
-use Rattle.stair_story.specs.Outside.{Outside, SinkView, Views, outside}
-use Rattle.stair_story.specs.Plan.{Plan, Over, Ask, Put, Allocate, Do}
-use Rattle.stair_engine.specs.Plans.{TEXT_LIMIT, create_plan, created_line, making_plan, show_plan, showing_plan}
-use Rattle.stair_story.specs.Question.{Text}
-use Rattle.stair_story.specs.Rack.{MeansOver, RackView, Works}
-use Rattle.stair_story.specs.Story.{Found, Took, TookLast, TakeFailed, Did, after}
+use Rattle.stair_command.specs.Fault.{status_of, status_of_config, status_of_fault}
+use Rattle.stair_command.specs.Outside.{Outside, SinkView, Views, outside}
+use Rattle.stair_command.specs.Program.{Program, Over, Ask, Put, Allocate, Do}
+use Rattle.stair_engine.specs.Programs.{MAX_GEOMETRY_TEXT, create_program, created_line, making_program, show_program, showing_program}
+use Rattle.stair_command.specs.Question.{Text}
+use Rattle.stair_command.specs.Rack.{ExecutesOver, RackView, Works}
+use Rattle.stair_command.specs.Trace.{Found, Took, TookLast, TakeFailed, Did, after}
 use Rattle.stair_engine.specs.Show.{show_text}
 use Rattle.stair_engine.specs.ShowSteps.{PutsFound, Shows}
-use Rattle.stair_story.specs.Streams.{PutsAll}
+use Rattle.stair_command.specs.Streams.{PutsAll}
 use Rattle.stair_engine.specs.Taking.{TakesText}
-use Rattle.stair_story.proofs.IntakeLaws.{are_all}
-use Rattle.stair_story.proofs.RackLaws.{over_cannot_put, over_grows, over_one, over_puts, over_runs_out, over_then}
+use Rattle.stair_command.proofs.IntakeLaws.{are_all}
+use Rattle.stair_command.proofs.RackLaws.{over_cannot_put, over_grows, over_one, over_puts, over_runs_out, over_then}
 
 -- a fault as the answer for a text
 abbrev answer_of : ConfigFault → Result Geometry ConfigFault
@@ -35,41 +35,41 @@ fault_of fault = Err fault
 
 module _ {R S K : Type 0} (rack : RackView R) (view : Views S K) where
   pub text_refused : (fault : Fault) (into : List ℕ) (source source' : S) (sink : K) (n : ℕ) (x : R) → TakesText view.source (Err fault) into source source'
-      → MeansOver rack view create_plan (Over (status_of_fault fault)) (outside source sink n) (outside source' sink n) x x
+      → ExecutesOver rack view create_program (Over (status_of_fault fault)) (outside source sink n) (outside source' sink n) x x
   text_refused (fault.Length needed took) into source source' sink n x takes =
-      let same : Over (Input TEXT_LIMIT (TEXT_LIMIT + 1)) ≡ Over (Input needed took) = λ i. Over (Input (sym takes.0 i) (sym takes.1 i)) in
-      subst (λ (rest : Plan). MeansOver rack view create_plan rest (outside source sink n) (outside source' sink n) x x) same
-      (over_one rack view (Took takes.2.0) create_plan (Over (Input TEXT_LIMIT (TEXT_LIMIT + 1))) _ _ x x
-      (are_all (TEXT_LIMIT + 1) takes.2.0 takes.2.1, refl) takes.2.2 refl refl refl)
+      let same : Over (Input MAX_GEOMETRY_TEXT (MAX_GEOMETRY_TEXT + 1)) ≡ Over (Input needed took) = λ i. Over (Input (sym takes.0 i) (sym takes.1 i)) in
+      subst (λ (rest : Program). ExecutesOver rack view create_program rest (outside source sink n) (outside source' sink n) x x) same
+      (over_one rack view (Took takes.2.0) create_program (Over (Input MAX_GEOMETRY_TEXT (MAX_GEOMETRY_TEXT + 1))) _ _ x x
+      (are_all (MAX_GEOMETRY_TEXT + 1) takes.2.0 takes.2.1, refl) takes.2.2 refl refl refl)
   text_refused fault.Input into source source' sink n x takes =
-      over_one rack view (TakeFailed takes.0) create_plan (Over InputFault) _ _ x x (takes.1, refl) takes.2 refl refl refl
+      over_one rack view (TakeFailed takes.0) create_program (Over InputFault) _ _ x x (takes.1, refl) takes.2 refl refl refl
   text_refused _ into source source' sink n x takes = absurd takes
 
   -- a text was taken
   pub takes_text : (count : ℕ) (into : List ℕ) (source source' : S) (sink : K) (n : ℕ) (x : R) → TakesText view.source (Ok count) into source source'
-      → MeansOver rack view create_plan (Allocate (Ask (Text (take count into)) making_plan)) (outside source sink n) (outside source' sink n) x x
+      → ExecutesOver rack view create_program (Allocate (Ask (Text (take count into)) making_program)) (outside source sink n) (outside source' sink n) x x
   takes_text count into source source' sink n x takes =
-      over_one rack view (TookLast (take count into)) create_plan (Allocate (Ask (Text (take count into)) making_plan)) _ _ x x
+      over_one rack view (TookLast (take count into)) create_program (Allocate (Ask (Text (take count into)) making_program)) _ _ x x
       (omega (arith, length-take count into, takes.0), refl) takes.1 refl refl refl
 
   -- a text says this
   pub reads_text : (text : List ℕ) (answer : Result Geometry ConfigFault) (a : Outside S K) (x : R) → TextReadsAs text answer
-      → MeansOver rack view (Allocate (Ask (Text text) making_plan)) (making_plan answer) a a x x
+      → ExecutesOver rack view (Allocate (Ask (Text text) making_program)) (making_program answer) a a x x
   reads_text text answer a x reads =
-      over_then rack view (over_grows rack view (Ask (Text text) making_plan) a x)
-      (over_one rack view (Found (Text text)) (Ask (Text text) making_plan) (making_plan answer) a a x x (answer, refl, reads, refl) refl refl refl refl)
+      over_then rack view (over_grows rack view (Ask (Text text) making_program) a x)
+      (over_one rack view (Found (Text text)) (Ask (Text text) making_program) (making_program answer) a a x x (answer, refl, reads, refl) refl refl refl refl)
 
   -- a text was refused, or there was no memory to read it
   pub text_faulty : (text : List ℕ) (fault : ConfigFault) (a : Outside S K) (x : R) → (answer_of fault ≢ Err config.Memory → TextReadsAs text (Err fault))
-      → MeansOver rack view (Allocate (Ask (Text text) making_plan)) (Over (status_of_config fault)) a a x x
-  text_faulty text config.Memory a x reads = over_runs_out rack view (Ask (Text text) making_plan) a x
+      → ExecutesOver rack view (Allocate (Ask (Text text) making_program)) (Over (status_of_config fault)) a a x x
+  text_faulty text config.Memory a x reads = over_runs_out rack view (Ask (Text text) making_program) a x
   text_faulty text config.NotToml a x reads = reads_text text (Err config.NotToml) a x (reads (λ is. cc))
   text_faulty text (config.Key key) a x reads = reads_text text (Err (config.Key key)) a x (reads (λ is. cc))
   text_faulty text (config.Limit k) a x reads = reads_text text (Err (config.Limit k)) a x (reads (λ is. cc))
 
   -- the array was made, or refused
   pub makes : (g : Geometry) (outcome : Outcome (Create g)) (a : Outside S K) (x y : R) → Works rack (Did (Create g) outcome) x y
-      → MeansOver rack view (making_plan (Ok g)) (after (Create g) (λ done. Put (created_line g) (Over Done)) outcome) a a x y
+      → ExecutesOver rack view (making_program (Ok g)) (after (Create g) (λ done. Put (created_line g) (Over Done)) outcome) a a x y
   makes g outcome a x y works =
       over_then rack view (over_grows rack view (Do (Create g) (λ done. Put (created_line g) (Over Done))) a x)
       (over_one rack view (Did (Create g) outcome) (Do (Create g) (λ done. Put (created_line g) (Over Done)))
@@ -77,23 +77,23 @@ module _ {R S K : Type 0} (rack : RackView R) (view : Views S K) where
 
   -- an array was found, or none
   surveys : (found : Outcome Survey) (a : Outside S K) (x y : R) → Works rack (Did Survey found) x y
-      → MeansOver rack view show_plan (after Survey showing_plan found) a a x y
+      → ExecutesOver rack view show_program (after Survey showing_program found) a a x y
   surveys found a x y works =
-      over_one rack view (Did Survey found) show_plan (after Survey showing_plan found) a a x y (found, refl, refl) refl refl refl works
+      over_one rack view (Did Survey found) show_program (after Survey showing_program found) a a x y (found, refl, refl) refl refl refl works
 
   -- what was found is put out
   puts_found : (found : Outcome Survey) (result : Result Status Fault) (source : S) (sink sink' : K) (n : ℕ) (x : R)
       → PutsFound view.sink found result sink sink'
-      → MeansOver rack view (after Survey showing_plan found) (Over (status_of result)) (outside source sink n) (outside source sink' n) x x
+      → ExecutesOver rack view (after Survey showing_program found) (Over (status_of result)) (outside source sink n) (outside source sink' n) x x
   puts_found (Ok member) (Ok status) source sink sink' n x puts =
-      subst (λ (s : Status). MeansOver rack view (showing_plan member) (Over s) (outside source sink n) (outside source sink' n) x x) (sym puts.1)
+      subst (λ (s : Status). ExecutesOver rack view (showing_program member) (Over s) (outside source sink n) (outside source sink' n) x x) (sym puts.1)
       (over_puts rack view (show_text member) source sink sink' n x puts.0)
   puts_found (Ok member) (Err fault) source sink sink' n x puts =
-      subst (λ (f : Fault). MeansOver rack view (showing_plan member) (Over (status_of_fault f)) (outside source sink n) (outside source sink' n) x x)
+      subst (λ (f : Fault). ExecutesOver rack view (showing_program member) (Over (status_of_fault f)) (outside source sink n) (outside source sink' n) x x)
       (sym puts.1) (over_cannot_put rack view (show_text member) puts.0.0 source sink sink' n x puts.0.1 puts.0.2)
   puts_found (Err refusal) result source sink sink' n x puts = record {
     means = record {
-      story = [];
+      trace = [];
       follows = ap (λ (r : Result Status Fault). Over (status_of r)) puts.0;
       bears = record { gives = refl; holds = puts.1; counts = refl };
     };
@@ -101,7 +101,7 @@ module _ {R S K : Type 0} (rack : RackView R) (view : Views S K) where
   }
 
   pub shows : (result : Result Status Fault) (source : S) (sink sink' : K) (n : ℕ) (x y : R) → Shows rack view.sink result x y sink sink'
-      → MeansOver rack view show_plan (Over (status_of result)) (outside source sink n) (outside source sink' n) x y
+      → ExecutesOver rack view show_program (Over (status_of result)) (outside source sink n) (outside source sink' n) x y
   shows result source sink sink' n x y did =
       over_then rack view (surveys did.found (outside source sink n) x y did.surveys) (puts_found did.found result source sink sink' n y did.puts)
 

@@ -4,17 +4,17 @@ use Rattle.stair_model.specs.Geometry.{Geometry, block_count}
 use Rattle.stair_member.specs.Membership.{Membership}
 use Rattle.stair_array.specs.Faults.{opening_refusal}
 use Rattle.stair_array.specs.Machine.{Recover, Refusal}
-use Rattle.stair_session.specs.Session.{ArrayState}
-use Rattle.stair_array.specs.Promise.{Begun, Closed, Found, Opened, Session}
+use Rattle.stair_invariant.specs.Session.{ArrayState}
+use Rattle.stair_array.specs.Promise.{Begun, Closed, Found, Opened, Phase}
 use Rattle.stair_array.specs.declared.fault.RecoverFault.TheVariants as recover
-use Rattle.stair_story.specs.declared.fault.Fault.{Fault}
-use Rattle.stair_story.specs.declared.fault.Fault.TheVariants as fault
-use Rattle.stair_story.specs.Comes.{ComesTo}
-use Rattle.stair_story.specs.Fault.{status_of_fault}
-use Rattle.stair_story.specs.Devices.{DeviceView, devices, some_left}
-use Rattle.stair_story.specs.Plan.{Plan, Over, opens_array, watches_array}
-use Rattle.stair_story.specs.Steps.{Takes}
-use Rattle.stair_story.specs.Transfers.{if_within, is_within, reads, writes}
+use Rattle.stair_command.specs.declared.fault.Fault.{Fault}
+use Rattle.stair_command.specs.declared.fault.Fault.TheVariants as fault
+use Rattle.stair_command.specs.Comes.{ExecutesOnDevices}
+use Rattle.stair_command.specs.Fault.{status_of_fault}
+use Rattle.stair_command.specs.Devices.{DeviceView, devices, some_left}
+use Rattle.stair_command.specs.Program.{Program, Over, opens_array, watches_array}
+use Rattle.stair_command.specs.Steps.{Takes}
+use Rattle.stair_command.specs.Transfers.{if_within, is_within, reads, writes}
 
 -- Why an array that was found isn't opened: memory was short before any call was made, or its opening was refused.
 abbrev pub IsUnopened : {R W : Type 0} → DeviceView R W → Membership → Fault → R → R → List W → List W
@@ -28,17 +28,17 @@ IsUnopened view member (fault.Opening refused) old new watchers left =
     (devices new Closed left)
 IsUnopened view member _ old new watchers left = ⊥
 
--- The session is begun: its array was looked for and is open, and so goes on every plan that opens one.
+-- The session is begun: its array was looked for and is open, and so goes on every program that opens one.
 abbrev pub BeginsSession : {R W : Type 0} → DeviceView R W → ArrayState → R → R → List W → List W → Type 0
-BeginsSession view array old new watchers left = (k : Geometry → Bool → Plan)
-    → ComesTo view (watches_array k)
+BeginsSession view array old new watchers left = (k : Geometry → Bool → Program)
+    → ExecutesOnDevices view (watches_array k)
     (k array.member.array.geometry (some_left watchers left)) (devices old Begun watchers)
     (devices new (Opened array) left)
 
--- or it isn't, by which every such plan ends
+-- or it isn't, by which every such program ends
 abbrev pub EndsSession : {R W : Type 0} → DeviceView R W → Fault → R → R → List W → List W → Type 0
-EndsSession view why old new watchers left = (k : Geometry → Bool → Plan)
-    → (session : Session) × ComesTo view (watches_array k) (Over (status_of_fault why))
+EndsSession view why old new watchers left = (k : Geometry → Bool → Program)
+    → (session : Phase) × ExecutesOnDevices view (watches_array k) (Over (status_of_fault why))
     (devices old Begun watchers) (devices new session left)
 
 -- RANGES
@@ -50,12 +50,12 @@ IsInRange g first count = 0 < count → first + count ≤ block_count g
 abbrev pub is_in_range : Geometry → ℕ → ℕ → Bool
 is_in_range g first count = is_within (block_count g) first count
 
-abbrev pub if_in_range : Geometry → ℕ → Bool → Plan → Plan
-if_in_range g first within plan = if_within (block_count g) first within plan
+abbrev pub if_in_range : Geometry → ℕ → Bool → Program → Program
+if_in_range g first within program = if_within (block_count g) first within program
 
 -- what is asked for is in range, or the call ends
-abbrev pub within_range : Geometry → (first count : ℕ) → Plan → Plan
-within_range g first count plan = if_in_range g first (is_in_range g first count) plan
+abbrev pub within_range : Geometry → (first count : ℕ) → Program → Program
+within_range g first count program = if_in_range g first (is_in_range g first count) program
 
 -- and the call ends so where it isn't
 abbrev pub IsPast : Geometry → ℕ → ℕ → Fault → Type 0
@@ -64,11 +64,11 @@ IsPast g first count refused = (is_in_range g first count ≡ false)
 
 -- READING
 
-abbrev pub read_plan : (first count : ℕ) → Plan
-read_plan first count = opens_array (λ g. within_range g first count (reads g first count))
+abbrev pub read_program : (first count : ℕ) → Program
+read_program first count = opens_array (λ g. within_range g first count (reads g first count))
 
 -- WRITING
 
-abbrev pub write_plan : (first count : ℕ) → Plan
-write_plan first count =
+abbrev pub write_program : (first count : ℕ) → Program
+write_program first count =
     opens_array (λ g. within_range g first count (writes g first count count 0 []))

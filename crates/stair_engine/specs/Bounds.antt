@@ -2,24 +2,24 @@
 use Rattle.std.specs.Prelude.{◌+◌, ◌*◌, ℕ, List}
 use Rattle.stair_state.specs.State.{State}
 use Rattle.stair_array.specs.Promise.{Begun}
-use Rattle.stair_story.specs.Bounded.{IsBoundedAt, StaysBounded}
-use Rattle.stair_story.specs.Devices.{DeviceView, MeansWhole, devices}
-use Rattle.stair_story.specs.Drawn.{over_steps, replaces}
-use Rattle.stair_story.specs.Living.{StandsOver}
-use Rattle.stair_story.specs.Outside.{Outside, Views}
-use Rattle.stair_story.specs.Plan.{Over}
+use Rattle.stair_command.specs.Bounded.{IsBoundedAt, StaysBounded}
+use Rattle.stair_command.specs.Devices.{DeviceView, ExecutesWhole, devices}
+use Rattle.stair_command.specs.Drawn.{over_steps, replaces}
+use Rattle.stair_command.specs.Living.{StandsOver}
+use Rattle.stair_command.specs.Outside.{Outside, Views}
+use Rattle.stair_command.specs.Program.{Over}
 use Rattle.stair_status.specs.declared.status.Status.{Status}
-use Rattle.stair_engine.specs.Plans.{plan_of}
+use Rattle.stair_engine.specs.Programs.{program_of}
 
--- Along each story that the call follows, of an array that stands over it: where no superblock of the array bore a draw above `most`
--- as the call began, none bears one above `most` + 100 + 5 q at any moment of the call, nor after a crash then. The story has q
+-- Along each trace that the call follows, of an array that stands over it: where no superblock of the array bore a draw above `most`
+-- as the call began, none bears one above `most` + 100 + 5 q at any moment of the call, nor after a crash then. The trace has q
 -- replacements of a slot, done or refused.
 abbrev pub BoundsDraws : {R W S K : Type 0} → DeviceView R W → Views S K → List (List ℕ) → Status
     → Outside S K → Outside S K → R → R → List W → List W → Type 0
 BoundsDraws view streams words status old new first last watchers left =
-    (whole : MeansWhole view streams (plan_of words) (Over status) old new first last watchers left)
+    (whole : ExecutesWhole view streams (program_of words) (Over status) old new first last watchers left)
     (s : State) (most : ℕ)
     → StandsOver view s (devices first Begun watchers) (devices last whole.session left)
     → IsBoundedAt s.geometry most (view.rack.history first)
-    → StaysBounded s.geometry (most + 100 + 5 * over_steps replaces whole.with.means.story)
+    → StaysBounded s.geometry (most + 100 + 5 * over_steps replaces whole.with.means.trace)
     (view.rack.history first) (view.rack.history last)

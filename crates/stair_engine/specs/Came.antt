@@ -1,17 +1,17 @@
 -- What came of the input of a `write`, and which blocks stand.
 use Rattle.std.specs.Prelude.{◌≡◌, ◌+◌, ℕ, List, [], ◌∷◌, ◌++◌, length, Ok, ⊤}
 use Rattle.stair_array.specs.Machine.{WriteBlocks}
-use Rattle.stair_story.specs.Story.{Deed, Stepped}
+use Rattle.stair_command.specs.Trace.{TraceItem, Stepped}
 use Rattle.stair_status.specs.declared.status.Status.{Status}
 use Rattle.stair_status.specs.declared.status.Status.TheVariants.{Done, Input, InputFault, OutputFault}
 
--- The writes that were acknowledged over a story wrote these blocks, from this one on, and no others.
-abbrev pub AreWritten : ℕ → List (List ℕ) → List Deed → Type 0
+-- The writes that were acknowledged over a trace wrote these blocks, from this one on, and no others.
+abbrev pub AreWritten : ℕ → List (List ℕ) → List TraceItem → Type 0
 AreWritten block contents [] = contents ≡ []
-AreWritten block contents (Stepped (WriteBlocks first some) (Ok done) events left ∷ story) =
+AreWritten block contents (Stepped (WriteBlocks first some) (Ok done) events left ∷ trace) =
     (first ≡ block) × (rest : List (List ℕ)) × (contents ≡ some ++ rest)
-    × AreWritten (block + length some) rest story
-AreWritten block contents (_ ∷ story) = AreWritten block contents story
+    × AreWritten (block + length some) rest trace
+AreWritten block contents (_ ∷ trace) = AreWritten block contents trace
 
 -- no step was refused: all was done, or the input or the sink brought it to an end
 abbrev pub IsUnrefused : Status → Type 0

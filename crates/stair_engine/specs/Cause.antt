@@ -9,8 +9,8 @@ use Rattle.stair_status.specs.declared.status.Status.{Status}
 use Rattle.stair_status.specs.declared.status.Status.TheVariants.{Done, NotCodeword, NoCodeword, Usage, Limit, Input, InputFault, OutputFault, Lost, OutOfMemory}
 use Rattle.stair_conf.specs.declared.job.StripeCommand.{StripeCommand}
 use Rattle.stair_conf.specs.declared.job.StripeCommand.TheVariants.{Check, Encode, Restore}
-use Rattle.stair_story.specs.Answer.{HasBytes, IsAnswer, bytes_needed, codeword_line}
-use Rattle.stair_story.specs.Encode.{TakesSteps}
+use Rattle.stair_command.specs.Answer.{HasBytes, IsAnswer, bytes_needed, codeword_line}
+use Rattle.stair_command.specs.Encode.{TakesSteps}
 
 -- held bytes grow by the first of the bytes, and not by all
 abbrev pub PutsPart : Option (List ℕ) → Option (List ℕ) → List ℕ → Type 0

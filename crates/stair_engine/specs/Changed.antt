@@ -6,34 +6,34 @@ use Rattle.stair_rack.specs.Crash.{EachImage}
 use Rattle.stair_rack.specs.History.{Happening}
 use Rattle.stair_state.specs.Blocks.{Blocks}
 use Rattle.stair_state.specs.State.{State}
-use Rattle.stair_session.specs.Returning.{Returning, StandsForAlone}
+use Rattle.stair_invariant.specs.Returning.{Returning, StandsForAlone}
 use Rattle.stair_array.specs.Promise.{Begun}
 use Rattle.stair_conf.specs.declared.job.VolumeJob.{VolumeJob}
-use Rattle.stair_story.specs.Devices.{DeviceView, MeansWhole, devices}
-use Rattle.stair_story.specs.Outside.{Outside, Views}
-use Rattle.stair_story.specs.Plan.{Over}
-use Rattle.stair_story.specs.Run.{IsRun, IsSafe}
-use Rattle.stair_story.specs.Story.{put_in, taken_in}
+use Rattle.stair_command.specs.Devices.{DeviceView, ExecutesWhole, devices}
+use Rattle.stair_command.specs.Outside.{Outside, Views}
+use Rattle.stair_command.specs.Program.{Over}
+use Rattle.stair_command.specs.Run.{IsRun, IsSafe}
+use Rattle.stair_command.specs.Trace.{put_in, taken_in}
 use Rattle.stair_status.specs.declared.status.Status.{Status}
 use Rattle.stair_status.specs.declared.status.Status.TheVariants.{Done}
 use Rattle.stair_volume.specs.Volumes.{Goes, HasVolumes, IsAmong, IsFinished, IsSettled, Volume}
-use Rattle.stair_engine.specs.Plans.{plan_of}
+use Rattle.stair_engine.specs.Programs.{program_of}
 
--- Along each story that the call follows, from a state of an array: in the end of a run of the machine the volumes are those that the
+-- Along each trace that the call follows, from a state of an array: in the end of a run of the machine the volumes are those that the
 -- command may have made of them, and where it was done those that it is to make; and where a crash cuts the run, each image that it
 -- leaves represents a state in which they are so.
 abbrev pub ChangesVolumes : {R W S K : Type 0} → VolumeJob → DeviceView R W → Views S K
     → List (List ℕ) → Status → Outside S K → Outside S K → R → R → List W → List W → Type 0
 ChangesVolumes job view streams words status old new first last watchers left =
-    (whole : MeansWhole view streams (plan_of words) (Over status) old new first last watchers left)
+    (whole : ExecutesWhole view streams (program_of words) (Over status) old new first last watchers left)
     (returning : Returning) (s : State) → IsWithinLimits s.geometry
-    → ((run : IsRun view returning (view.rack.history first) s whole.with.means.story
+    → ((run : IsRun view returning (view.rack.history first) s whole.with.means.trace
     (devices first Begun watchers) (devices last whole.session left))
-    → Goes job (taken_in whole.with.means.story) s run.state
+    → Goes job (taken_in whole.with.means.trace) s run.state
     × (status ≡ Done
-    → IsFinished job (taken_in whole.with.means.story) (put_in whole.with.means.story) s run.state))
-    × ((c : List Happening) (safe : IsSafe view returning (view.rack.history first) s (plan_of words)
-    whole.with.means.story (devices first Begun watchers) (devices last whole.session left) c)
+    → IsFinished job (taken_in whole.with.means.trace) (put_in whole.with.means.trace) s run.state))
+    × ((c : List Happening) (safe : IsSafe view returning (view.rack.history first) s (program_of words)
+    whole.with.means.trace (devices first Begun watchers) (devices last whole.session left) c)
     → EachImage (λ image. (state : State) × StandsForAlone returning state image
     × Goes job (taken_in safe.done) s state) c)
 
@@ -48,11 +48,11 @@ pub record HoldsVolume (count : ℕ) (held : Blocks) (name : List ℕ) (v : Volu
 abbrev pub ReadsAlike : {R W S K : Type 0} → (name : List ℕ) → (block count : ℕ) → DeviceView R W
     → Views S K → List (List ℕ) → Status → Outside S K → Outside S K → R → R → List W → List W → Type 0
 ReadsAlike name block count view streams words status old new first last watchers left =
-    (whole : MeansWhole view streams (plan_of words) (Over status) old new first last watchers left)
+    (whole : ExecutesWhole view streams (program_of words) (Over status) old new first last watchers left)
     (returning : Returning) (s : State) → IsWithinLimits s.geometry
-    → IsRun view returning (view.rack.history first) s whole.with.means.story
+    → IsRun view returning (view.rack.history first) s whole.with.means.trace
     (devices first Begun watchers) (devices last whole.session left)
     → status ≡ Done
     → (held : Blocks) × IsSettled s held
     × ((v : Volume) → HoldsVolume (block_count s.geometry) held name v
-    → put_in whole.with.means.story ≡ concat (take count (drop block v.blocks)))
+    → put_in whole.with.means.trace ≡ concat (take count (drop block v.blocks)))

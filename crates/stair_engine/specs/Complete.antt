@@ -6,7 +6,7 @@ use Rattle.stair_model.specs.Coverage.{IsCovered}
 use Rattle.stair_model.specs.Geometry.{Geometry, IsWithinLimits, block_count}
 use Rattle.stair_model.specs.Stripe.{SECTOR, Stripe}
 use Rattle.stair_state.specs.State.{State, changed_if}
-use Rattle.stair_session.specs.Returning.{NoneReturns, Returning}
+use Rattle.stair_invariant.specs.Returning.{NoneReturns, Returning}
 use Rattle.stair_array.specs.Creates.{CanBeMade}
 use Rattle.stair_array.specs.Promise.{Begun}
 use Rattle.stair_conf.specs.Config.{TextReadsAs}
@@ -21,18 +21,18 @@ use Rattle.stair_script.specs.Line.{SpellsLine}
 use Rattle.stair_script.specs.declared.line.Line.{Line}
 use Rattle.stair_script.specs.declared.line.Line.TheVariants as line
 use Rattle.stair_script.specs.declared.line.Line.TheVariants.{Blank}
-use Rattle.stair_story.specs.Answer.{HasBytes, bytes_needed, map_bytes}
-use Rattle.stair_story.specs.Devices.{DeviceView, Devices, MeansWhole, WorksAll, devices}
-use Rattle.stair_story.specs.Outside.{Outside, Views}
-use Rattle.stair_story.specs.Plan.{Over}
+use Rattle.stair_command.specs.Answer.{HasBytes, bytes_needed, map_bytes}
+use Rattle.stair_command.specs.Devices.{DeviceView, Devices, ExecutesWhole, WorksAll, devices}
+use Rattle.stair_command.specs.Outside.{Outside, Views}
+use Rattle.stair_command.specs.Program.{Over}
 use Rattle.stair_engine.specs.Blocks.{IsInRange}
 use Rattle.stair_engine.specs.Exercise.{has_write, most_steps}
-use Rattle.stair_engine.specs.Plans.{TEXT_LIMIT, plan_of}
-use Rattle.stair_story.specs.Rack.{RackView}
-use Rattle.stair_story.specs.Restore.{HoldsCells, IsErasedBy}
-use Rattle.stair_story.specs.Story.{Deed, Leads}
-use Rattle.stair_story.specs.Sure.{HasDevice, HasNoFault, IsDone, ServesAlong, ServesThroughout}
-use Rattle.stair_story.specs.Texts.{AreLines, SCRIPT_LIMIT}
+use Rattle.stair_engine.specs.Programs.{MAX_GEOMETRY_TEXT, program_of}
+use Rattle.stair_command.specs.Rack.{RackView}
+use Rattle.stair_command.specs.Restore.{HoldsCells, IsErasedBy}
+use Rattle.stair_command.specs.Trace.{TraceItem, AlongTrace}
+use Rattle.stair_command.specs.Sure.{HasDevice, HasNoFault, IsDone, ServesAlong, ServesThroughout}
+use Rattle.stair_command.specs.Texts.{AreLines, SCRIPT_LIMIT}
 use Rattle.stair_engine.specs.Stands.{StandsThroughout}
 use Rattle.stair_engine.specs.Task.{one_stripe}
 use Rattle.stair_status.specs.declared.status.Status.{Status}
@@ -107,7 +107,7 @@ abbrev pub CanBeDone : {R : Type 0} → Returning → (State → Type 0) → Rac
 CanBeDone returning Serves rack (job.OneStripe command n m r e) told first last =
     TellsInput told (IsValidInput command (one_stripe n m r e))
 CanBeDone returning Serves rack job.Create told first last = TellsInput told (λ input.
-    (g : Geometry) × TextReadsAs input (Ok g) × (length input ≤ TEXT_LIMIT) × IsTrue rack.honest
+    (g : Geometry) × TextReadsAs input (Ok g) × (length input ≤ MAX_GEOMETRY_TEXT) × IsTrue rack.honest
     × CanBeMade g (rack.history first) (rack.history last))
 CanBeDone returning Serves rack job.Show told first last = IsTrue rack.honest
     × StandsThroughout returning (rack.history first) (rack.history last)
@@ -139,19 +139,19 @@ IsComplete rack view job status old new first last = HasNoFault view old new
     → CanBeDone NoneReturns (λ s. ServesThroughout rack s first last) rack job
     (view.source.left old.source) first last → IsFinished job status
 
--- So it is along the story of its call, whether media come back or not.
+-- So it is along the trace of its call, whether media come back or not.
 abbrev pub IsCompleteAlong : {R W S K : Type 0} → Returning → (view : DeviceView R W)
-    → Views S K → Job → Status → Outside S K → Outside S K → (story : List Deed)
-    → (first last : Devices R W) → Leads (WorksAll view) story first last → Type 0
-IsCompleteAlong returning view streams job status old new story first last works =
+    → Views S K → Job → Status → Outside S K → Outside S K → (trace : List TraceItem)
+    → (first last : Devices R W) → AlongTrace (WorksAll view) trace first last → Type 0
+IsCompleteAlong returning view streams job status old new trace first last works =
     HasNoFault streams old new
-    → CanBeDone returning (λ s. ServesAlong returning view s story first last works) view.rack job
+    → CanBeDone returning (λ s. ServesAlong returning view s trace first last works) view.rack job
     (streams.source.left old.source) first.rack last.rack → IsFinished job status
 
--- It is so along each story that this call follows.
-abbrev pub IsCompleteWherever : {R W S K : Type 0} → Returning → DeviceView R W → Views S K
+-- It is so along each trace that this call follows.
+abbrev pub IsCompleteWithReinsertion : {R W S K : Type 0} → Returning → DeviceView R W → Views S K
     → List (List ℕ) → Job → Status → Outside S K → Outside S K → R → R → List W → List W → Type 0
-IsCompleteWherever returning view streams words job status old new first last watchers left =
-    (whole : MeansWhole view streams (plan_of words) (Over status) old new first last watchers left)
-    → IsCompleteAlong returning view streams job status old new whole.with.means.story
+IsCompleteWithReinsertion returning view streams words job status old new first last watchers left =
+    (whole : ExecutesWhole view streams (program_of words) (Over status) old new first last watchers left)
+    → IsCompleteAlong returning view streams job status old new whole.with.means.trace
     (devices first Begun watchers) (devices last whole.session left) whole.with.works

@@ -15,9 +15,9 @@ use Rattle.stair_state.specs.Represents.{Represents}
 use Rattle.stair_state.specs.State.{State}
 use Rattle.stair_state.specs.Tolerance.{ToleratedSince}
 use Rattle.stair_array.specs.Looking.{cells_at}
-use Rattle.stair_story.specs.Living.{IsLiveAt}
-use Rattle.stair_story.specs.Outside.{SinkView}
-use Rattle.stair_story.specs.Story.{Deed, HasPut, PutFailed}
+use Rattle.stair_command.specs.Living.{IsLiveAt}
+use Rattle.stair_command.specs.Outside.{SinkView}
+use Rattle.stair_command.specs.Trace.{TraceItem, HasPut, PutFailed}
 use Rattle.stair_status.specs.declared.status.Status.{Status}
 use Rattle.stair_status.specs.declared.status.Status.TheVariants.{Done}
 use Rattle.stair_engine.specs.Mending.{scrubbed_line}
@@ -65,11 +65,11 @@ pub record IsUndisturbed (s : State) (first last : List Happening) : Type 0 wher
   pub gates : NoGateIsOpen s.geometry first
 
 -- the line is all that was put out, and what was done last
-abbrev pub PutsAlone : List ℕ → List Deed → Type 0
+abbrev pub PutsAlone : List ℕ → List TraceItem → Type 0
 PutsAlone line [] = ⊥
-PutsAlone line (HasPut bytes ∷ story) = (bytes ≡ line) × (story ≡ [])
-PutsAlone line (PutFailed part ∷ story) = ⊥
-PutsAlone line (deed ∷ story) = PutsAlone line story
+PutsAlone line (HasPut bytes ∷ trace) = (bytes ≡ line) × (trace ≡ [])
+PutsAlone line (PutFailed part ∷ trace) = ⊥
+PutsAlone line (item ∷ trace) = PutsAlone line trace
 
 -- A `scrub` that is done tells of such a rack how many cells of live slots couldn't be read at first.
 abbrev pub TellsCount : {K : Type 0} → SinkView K → Status → K → K → List Happening → List Happening

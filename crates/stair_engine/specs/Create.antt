@@ -1,4 +1,4 @@
--- What `create` means beyond its plan: what it made, and what it leaves alone.
+-- What `create` means beyond its program: what it made, and what it leaves alone.
 use Rattle.std.specs.Prelude.{◌≡◌, ◌⊎◌, ℕ, List, Option, Ok, IfSome}
 use Rattle.stair_model.specs.Geometry.{Geometry}
 use Rattle.stair_rack.specs.History.{Happening}

@@ -5,7 +5,7 @@ use Rattle.stair_model.specs.Geometry.{Geometry}
 use Rattle.stair_status.specs.declared.status.Status.{Status}
 use Rattle.stair_conf.specs.declared.job.StripeCommand.{StripeCommand}
 use Rattle.stair_engine.specs.Cause.{CountsSteps, HasCause, LimitsComeFirst, LooksForEnd, PutsOut, TakesInput}
-use Rattle.stair_story.specs.Outside.{Outside, Views}
+use Rattle.stair_command.specs.Outside.{Outside, Views}
 
 -- what a command keeps
 pub record Does {S K : Type 0} (view : Views S K) (command : StripeCommand) (g : Geometry)

@@ -5,7 +5,7 @@ use Rattle.stair_model.specs.Geometry.{Geometry, block_count}
 use Rattle.stair_model.specs.Stripe.{SECTOR}
 use Rattle.stair_array.specs.Machine.{ReadBlock, ScrubStripe, WriteBlocks}
 use Rattle.stair_status.specs.declared.status.Status.TheVariants.{Done, OutOfRange}
-use Rattle.stair_story.specs.Plan.{Plan, Over, Put, take_step, if_so, opens_array}
+use Rattle.stair_command.specs.Program.{Program, Over, Put, take_step, if_so, opens_array}
 use Rattle.stair_engine.specs.declared.exercise.Exercised.{Exercised}
 
 abbrev pub none_exercised : Exercised
@@ -24,24 +24,24 @@ choice_of x = x / 2 ^ 33 / 8
 
 -- THE STEPS, each before what comes after it
 
-abbrev pub scrub_one : Geometry → ℕ → Exercised → (Exercised → Plan) → Plan
+abbrev pub scrub_one : Geometry → ℕ → Exercised → (Exercised → Program) → Program
 scrub_one g x so_far k = take_step g.n (ScrubStripe (choice_of x % g.stripes))
     (λ cells. k (record so_far { scrubs = so_far.scrubs + 1 }))
 
-abbrev pub read_one : Geometry → ℕ → Exercised → (Exercised → Plan) → Plan
+abbrev pub read_one : Geometry → ℕ → Exercised → (Exercised → Program) → Program
 read_one g x so_far k = take_step g.n (ReadBlock (choice_of x % block_count g))
     (λ contents. k (record so_far {
       reads = so_far.reads + 1;
       sum = (so_far.sum + slice_index contents 0) % 2 ^ 64;
     }))
 
-abbrev pub write_one : Geometry → ℕ → Exercised → (Exercised → Plan) → Plan
+abbrev pub write_one : Geometry → ℕ → Exercised → (Exercised → Program) → Program
 write_one g x so_far k =
     take_step g.n (WriteBlocks (choice_of x % block_count g) (replicate SECTOR (choice_of x % 251) ∷ []))
     (λ done. k (record so_far { writes = so_far.writes + 1 }))
 
 -- the step of a number: kind 0 scrubs, 1 to 3 read, 4 to 7 write
-abbrev pub step_one : Geometry → ℕ → Exercised → (Exercised → Plan) → Plan
+abbrev pub step_one : Geometry → ℕ → Exercised → (Exercised → Program) → Program
 step_one g x so_far k = if_so (kind_of x == 0) (scrub_one g x so_far k)
     (if_so (nat_lt (kind_of x) 4) (read_one g x so_far k) (write_one g x so_far k))
 
@@ -52,7 +52,7 @@ has_write number (suc count) =
     nat_lt 3 (kind_of (next_number number)) || has_write (next_number number) count
 
 -- so many steps, by the numbers after this one; the rest takes what they came to
-abbrev pub exercises : Geometry → (left number : ℕ) → Exercised → (Exercised → Plan) → Plan
+abbrev pub exercises : Geometry → (left number : ℕ) → Exercised → (Exercised → Program) → Program
 exercises g zero number so_far k = k so_far
 exercises g (suc left) number so_far k =
     step_one g (next_number number) so_far (λ later. exercises g left (next_number number) later k)
@@ -69,15 +69,15 @@ exercised_line number count came = codes "exercise " ++ (decimal number ++ (code
     ++ (decimal came.writes ++ (codes " scrubs " ++ (decimal came.scrubs ++ (codes " sum "
     ++ (decimal came.sum ++ 10 ∷ [])))))))))))
 
-abbrev pub if_few : (count : ℕ) → Bool → Plan → Plan
-if_few count true plan = plan
-if_few count false plan = Over (OutOfRange count (most_steps + 1))
+abbrev pub if_few : (count : ℕ) → Bool → Program → Program
+if_few count true program = program
+if_few count false program = Over (OutOfRange count (most_steps + 1))
 
 -- how many are asked for is tested after the opening
-abbrev pub exercise_steps : (number count : ℕ) → Geometry → Plan
+abbrev pub exercise_steps : (number count : ℕ) → Geometry → Program
 exercise_steps number count g = if_few count (nat_lt count (most_steps + 1))
     (exercises g count number none_exercised
     (λ came. Put (exercised_line number count came) (Over Done)))
 
-abbrev pub exercise_plan : (number count : ℕ) → Plan
-exercise_plan number count = opens_array (exercise_steps number count)
+abbrev pub exercise_program : (number count : ℕ) → Program
+exercise_program number count = opens_array (exercise_steps number count)

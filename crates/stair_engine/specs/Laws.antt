@@ -15,13 +15,13 @@ use Rattle.stair_conf.specs.declared.job.StripeCommand.{StripeCommand}
 use Rattle.stair_script.specs.declared.line.Line.{Line}
 use Rattle.stair_status.specs.declared.status.Status.{Status}
 use Rattle.stair_status.specs.declared.status.Status.TheVariants.{Done, Usage, InputFault, OutputFault, OutOfMemory}
-use Rattle.stair_story.specs.Answer.{map_bytes}
+use Rattle.stair_command.specs.Answer.{map_bytes}
 use Rattle.stair_engine.specs.Cause.{Answers, IfRefusedAtOnce}
 use Rattle.stair_watch.specs.WatcherList.{AllStay}
 use Rattle.stair_engine.specs.Answered.{AnswersClient}
 use Rattle.stair_engine.specs.Bounds.{BoundsDraws}
 use Rattle.stair_engine.specs.Changed.{ChangesVolumes, ReadsAlike}
-use Rattle.stair_engine.specs.Complete.{IsComplete, IsCompleteWherever, IsFinished, IsScriptOf}
+use Rattle.stair_engine.specs.Complete.{IsComplete, IsCompleteWithReinsertion, IsFinished, IsScriptOf}
 use Rattle.stair_engine.specs.Counted.{TellsCount}
 use Rattle.stair_engine.specs.Halts.{IsGuarded}
 use Rattle.stair_engine.specs.Create.{IsOnceMade, MakesArray, SparesArrays}
@@ -29,18 +29,18 @@ use Rattle.stair_engine.specs.Does.{Does}
 use Rattle.stair_array.specs.Arrays.{blocks_of}
 use Rattle.stair_array.specs.Promise.{Begun}
 use Rattle.stair_state.specs.State.{State}
-use Rattle.stair_session.specs.Returning.{Returning}
+use Rattle.stair_invariant.specs.Returning.{Returning}
 use Rattle.stair_engine.specs.Came.{AreWritten, IsUnrefused}
 use Rattle.stair_engine.specs.Jobs.{IsScripted, PutsOnTheWay, MakesCalls, MayWrite, NotSpelled, OpensArray, TakesInput}
-use Rattle.stair_story.specs.Devices.{DeviceView, MeansWhole, devices}
-use Rattle.stair_story.specs.Ending.{IfNothingIsPutOut, TellsFaults}
-use Rattle.stair_story.specs.Means.{Means}
-use Rattle.stair_story.specs.Outside.{Outside, Views}
-use Rattle.stair_story.specs.Pieces.{whole_of}
-use Rattle.stair_story.specs.Plan.{Over}
-use Rattle.stair_story.specs.Story.{taken_in}
-use Rattle.stair_story.specs.Sure.{EachCanReplace, HasNoFault, IsDone, ServesAlong}
-use Rattle.stair_engine.specs.Plans.{plan_of}
+use Rattle.stair_command.specs.Devices.{DeviceView, ExecutesWhole, devices}
+use Rattle.stair_command.specs.Ending.{IfNothingIsPutOut, TellsFaults}
+use Rattle.stair_command.specs.Executes.{Executes}
+use Rattle.stair_command.specs.Outside.{Outside, Views}
+use Rattle.stair_command.specs.Pieces.{whole_of}
+use Rattle.stair_command.specs.Program.{Over}
+use Rattle.stair_command.specs.Trace.{taken_in}
+use Rattle.stair_command.specs.Sure.{EachCanReplace, HasNoFault, IsDone, ServesAlong}
+use Rattle.stair_engine.specs.Programs.{program_of}
 use Rattle.stair_engine.specs.Mended.{EndsMended, IsMended, Mends}
 use Rattle.stair_engine.specs.Stands.{ArrayStands}
 use Rattle.stair_engine.specs.Task.{one_stripe}
@@ -59,29 +59,29 @@ pub record DifferAtErased (g : Geometry) (a b : List ℕ) : Type 0 where
   pub a_bytes : All (λ x. x < 256) a
   pub b_bytes : All (λ x. x < 256) b
 
--- The laws of plans: from a call that means what its words say.
+-- The laws of programs: from a call that means what its words say.
 
 -- it does the job that the words spell
 abbrev pub WordsAreDone : {S K : Type 0} → Views S K → Type 0
 WordsAreDone {S} {K} view =
     (words : List (List ℕ)) (command : StripeCommand) (n m r : ℕ) (e : List ℕ) (status : Status)
     (old new : Outside S K) → Spells words (OneStripe command n m r e) →
-    Means view (plan_of words) (Over status) old new →
+    Executes view (program_of words) (Over status) old new →
     Does view command (one_stripe n m r e) status old new
 
 -- the words spell no job exactly where the answer is Usage, if there was memory
 abbrev pub UsageIsExact : (S K : Type 0) → Type 0
 UsageIsExact S K = (view : Views S K) (words : List (List ℕ)) (status : Status)
-    (old new : Outside S K) → Means view (plan_of words) (Over status) old new
+    (old new : Outside S K) → Executes view (program_of words) (Over status) old new
     → status ≢ OutOfMemory
     → ((status ≡ Usage) ↔ (IsSpelled words → ⊥)) × (status ≢ Usage → IsSpelled words)
 
--- the words `plan 4 1 2 1`
+-- the words `program 4 1 2 1`
 abbrev pub plan_words : List (List ℕ)
 plan_words = codes "plan" ∷ decimal 4 ∷ decimal 1 ∷ decimal 2 ∷ decimal 1 ∷ []
 
 -- A call with these words is done, is out of memory, or fails at its output, and then the sink's count of faults rose. The premise is
--- part of clause `borne_out` of `stair` (`over.means`). So this holds of each body that meets the clause, over any rack, source and
+-- part of clause `refines` of `stair` (`over.means`). So this holds of each body that meets the clause, over any rack, source and
 -- sink, and no such body gives all words that spell a job one answer other than OutOfMemory:
 -- - Done falls by WordsAreDone at `check 2 1 2 1`, which breaks limit 1, and by UsageIsExact at no words.
 -- - OutputFault falls here, at each call whose sink counts no fault.
@@ -89,7 +89,7 @@ plan_words = codes "plan" ∷ decimal 4 ∷ decimal 1 ∷ decimal 2 ∷ decimal 
 -- That calls aren't always out of memory only tests show.
 abbrev pub PlanIsDone : (S K : Type 0) → Type 0
 PlanIsDone S K = (view : Views S K) (status : Status) (old new : Outside S K)
-    → Means view (plan_of plan_words) (Over status) old new
+    → Executes view (program_of plan_words) (Over status) old new
     → IsDone status
     ⊎ ((status ≡ OutputFault) × Rose (view.sink.faults old.sink) (view.sink.faults new.sink))
 
@@ -99,7 +99,7 @@ abbrev pub BytesAreAnswered : {S K : Type 0} → Views S K → Type 0
 BytesAreAnswered {S} {K} view =
     (words : List (List ℕ)) (command : StripeCommand) (n m r : ℕ) (e : List ℕ) (status : Status)
     (old new : Outside S K) → Spells words (OneStripe command n m r e) →
-    Means view (plan_of words) (Over status) old new →
+    Executes view (program_of words) (Over status) old new →
     (Rose (view.source.faults old.source) (view.source.faults new.source) → ⊥) →
     (Rose (view.sink.faults old.sink) (view.sink.faults new.sink) → ⊥) → status ≢ OutOfMemory →
     IfSome (view.source.left old.source) (λ bytes. Answers command (one_stripe n m r e) bytes
@@ -109,7 +109,7 @@ BytesAreAnswered {S} {K} view =
 -- `serve`, `vlist` and `vread` puts anything out that isn't done.
 abbrev pub AllIsKept : (S K : Type 0) → Type 0
 AllIsKept S K = (view : Views S K) (words : List (List ℕ)) (status : Status)
-    (old new : Outside S K) → Means view (plan_of words) (Over status) old new
+    (old new : Outside S K) → Executes view (program_of words) (Over status) old new
     → TellsFaults view status old new
     × (NotSpelled PutsOnTheWay words → IfNothingIsPutOut status (new.sink ≡ old.sink))
 
@@ -118,14 +118,14 @@ AllIsKept S K = (view : Views S K) (words : List (List ℕ)) (status : Status)
 abbrev pub RackIsLeft : (R W S K : Type 0) → Type 0
 RackIsLeft R W S K = (view : DeviceView R W) (streams : Views S K) (words : List (List ℕ))
     (status : Status) (old new : Outside S K) (first last : R) (watchers left : List W)
-    → MeansWhole view streams (plan_of words) (Over status) old new first last watchers left
+    → ExecutesWhole view streams (program_of words) (Over status) old new first last watchers left
     → NotSpelled MakesCalls words → (last ≡ first) × IfRefusedAtOnce status (new ≡ old)
 
 -- `show` makes no call on the source and counts no step; on an honest rack it changes no sector
 abbrev pub ShowOnlyLooks : (R W S K : Type 0) → Type 0
 ShowOnlyLooks R W S K = (view : DeviceView R W) (streams : Views S K) (words : List (List ℕ))
     (status : Status) (old new : Outside S K) (first last : R) (watchers left : List W)
-    → MeansWhole view streams (plan_of words) (Over status) old new first last watchers left
+    → ExecutesWhole view streams (program_of words) (Over status) old new first last watchers left
     → Spells words Show
     → (status ≢ InputFault) × (new.source ≡ old.source) × (new.counter ≡ old.counter)
     × (IsTrue view.rack.honest
@@ -135,22 +135,22 @@ ShowOnlyLooks R W S K = (view : DeviceView R W) (streams : Views S K) (words : L
 abbrev pub SourceIsLeft : (S K : Type 0) → Type 0
 SourceIsLeft S K = (view : Views S K) (words : List (List ℕ)) (status : Status)
     (old new : Outside S K) → NotSpelled TakesInput words
-    → Means view (plan_of words) (Over status) old new
+    → Executes view (program_of words) (Over status) old new
     → (new.source ≡ old.source) × (status ≢ InputFault)
 
 -- Where no step of a `write` was refused, the blocks that were written are the whole blocks of what came of its input, all of them.
 abbrev pub WholeBlocksStand : (S K : Type 0) → Type 0
 WholeBlocksStand S K = (view : Views S K) (words : List (List ℕ)) (first count : ℕ)
     (status : Status) (old new : Outside S K) → Spells words (Write first count)
-    → (means : Means view (plan_of words) (Over status) old new) → IsUnrefused status
-    → AreWritten first (blocks_of (whole_of (take (SECTOR * count) (taken_in means.story))))
-    means.story
+    → (means : Executes view (program_of words) (Over status) old new) → IsUnrefused status
+    → AreWritten first (blocks_of (whole_of (take (SECTOR * count) (taken_in means.trace))))
+    means.trace
 
 -- every command but those that make or open an array leaves one as it was
 abbrev pub ArrayIsLeft : (R W S K : Type 0) → Type 0
 ArrayIsLeft R W S K = (view : DeviceView R W) (streams : Views S K) (words : List (List ℕ))
     (status : Status) (old new : Outside S K) (first last : R) (watchers left : List W)
-    → MeansWhole view streams (plan_of words) (Over status) old new first last watchers left
+    → ExecutesWhole view streams (program_of words) (Over status) old new first last watchers left
     → NotSpelled MayWrite words → IsTrue view.rack.honest
     → ArrayStands (view.rack.history first) (view.rack.history last)
 
@@ -158,7 +158,7 @@ ArrayIsLeft R W S K = (view : DeviceView R W) (streams : Views S K) (words : Lis
 abbrev pub ArrayIsMade : (R W S K : Type 0) → Type 0
 ArrayIsMade R W S K = (view : DeviceView R W) (streams : Views S K) (words : List (List ℕ))
     (status : Status) (old new : Outside S K) (first last : R) (watchers left : List W)
-    → MeansWhole view streams (plan_of words) (Over status) old new first last watchers left
+    → ExecutesWhole view streams (program_of words) (Over status) old new first last watchers left
     → Spells words Create → IsTrue view.rack.honest → IsOnceMade status
     → MakesArray (streams.source.left old.source) (view.rack.history first)
     (view.rack.history last)
@@ -167,7 +167,7 @@ ArrayIsMade R W S K = (view : DeviceView R W) (streams : Views S K) (words : Lis
 abbrev pub ArraysAreSpared : (R W S K : Type 0) → Type 0
 ArraysAreSpared R W S K = (view : DeviceView R W) (streams : Views S K) (words : List (List ℕ))
     (status : Status) (old new : Outside S K) (first last : R) (watchers left : List W)
-    → MeansWhole view streams (plan_of words) (Over status) old new first last watchers left
+    → ExecutesWhole view streams (program_of words) (Over status) old new first last watchers left
     → Spells words Create → IsTrue view.rack.honest
     → SparesArrays status (view.rack.history first) (view.rack.history last)
 
@@ -175,7 +175,7 @@ ArraysAreSpared R W S K = (view : DeviceView R W) (streams : Views S K) (words :
 abbrev pub MemoryComesFirst : (R W S K : Type 0) → Type 0
 MemoryComesFirst R W S K = (view : DeviceView R W) (streams : Views S K) (words : List (List ℕ))
     (old new : Outside S K) (first last : R) (watchers left : List W)
-    → MeansWhole view streams (plan_of words) (Over OutOfMemory) old new first last watchers left
+    → ExecutesWhole view streams (program_of words) (Over OutOfMemory) old new first last watchers left
     → (IsTrue view.rack.honest
     → Ran LeavesSectors (view.rack.history first) (view.rack.history last))
     × (NotSpelled OpensArray words → last ≡ first)
@@ -185,22 +185,22 @@ abbrev pub AllIsComplete : (R W S K : Type 0) → Type 0
 AllIsComplete R W S K = (view : DeviceView R W) (streams : Views S K) (words : List (List ℕ))
     (job : Job) (status : Status) (old new : Outside S K) (first last : R)
     (watchers left : List W) → Spells words job
-    → MeansWhole view streams (plan_of words) (Over status) old new first last watchers left
+    → ExecutesWhole view streams (program_of words) (Over status) old new first last watchers left
     → IsComplete view.rack streams job status old new first last
 
--- and it is so along the story of its call, whether media come back or not
-abbrev pub AllIsCompleteWherever : (R W S K : Type 0) → Type 0
-AllIsCompleteWherever R W S K = (returning : Returning) (view : DeviceView R W)
+-- and it is so along the trace of its call, whether media come back or not
+abbrev pub AllIsCompleteWithReinsertion : (R W S K : Type 0) → Type 0
+AllIsCompleteWithReinsertion R W S K = (returning : Returning) (view : DeviceView R W)
     (streams : Views S K) (words : List (List ℕ)) (job : Job) (status : Status)
     (old new : Outside S K) (first last : R) (watchers left : List W) → Spells words job
-    → IsCompleteWherever returning view streams words job status old new first last watchers left
+    → IsCompleteWithReinsertion returning view streams words job status old new first last watchers left
 
 -- a job that mends an array leaves it so, where its rack is honest
 abbrev pub ArrayIsMended : (R W S K : Type 0) → Type 0
 ArrayIsMended R W S K = (view : DeviceView R W) (streams : Views S K) (words : List (List ℕ))
     (job : Job) (status : Status) (old new : Outside S K) (first last : R)
     (watchers left : List W) → Spells words job
-    → MeansWhole view streams (plan_of words) (Over status) old new first last watchers left
+    → ExecutesWhole view streams (program_of words) (Over status) old new first last watchers left
     → IsTrue view.rack.honest
     → IsMended job status (view.rack.history first) (view.rack.history last)
 
@@ -209,7 +209,7 @@ abbrev pub SessionIsMended : (R W S K : Type 0) → Type 0
 SessionIsMended R W S K = (view : DeviceView R W) (streams : Views S K) (words : List (List ℕ))
     (job : Job) (status : Status) (old new : Outside S K) (first last : R)
     (watchers left : List W) → Spells words job
-    → (whole : MeansWhole view streams (plan_of words) (Over status) old new first last watchers left)
+    → (whole : ExecutesWhole view streams (program_of words) (Over status) old new first last watchers left)
     → IsTrue view.rack.honest → Mends job → status ≡ Done
     → EndsMended job whole.session (view.rack.history first) (view.rack.history last)
 
@@ -218,36 +218,36 @@ abbrev pub ScrubsAreCounted : (R W S K : Type 0) → Type 0
 ScrubsAreCounted R W S K = (view : DeviceView R W) (streams : Views S K) (words : List (List ℕ))
     (status : Status) (old new : Outside S K) (first last : R) (watchers left : List W)
     → Spells words Scrub
-    → MeansWhole view streams (plan_of words) (Over status) old new first last watchers left
+    → ExecutesWhole view streams (program_of words) (Over status) old new first last watchers left
     → IsTrue view.rack.honest → TellsCount streams.sink status old.sink new.sink
     (view.rack.history first) (view.rack.history last)
 
--- A slot is replaced, if there was memory, where the array serves along the story, whether media come back or not, no fault is
+-- A slot is replaced, if there was memory, where the array serves along the trace, whether media come back or not, no fault is
 -- counted, and the slot can be replaced as that step begins: it is Down then, and its medium is fit from then on.
 abbrev pub ReplacementIsDone : (R W S K : Type 0) → Type 0
 ReplacementIsDone R W S K = (returning : Returning) (view : DeviceView R W) (streams : Views S K)
     (words : List (List ℕ)) (slot : ℕ) (status : Status) (s : State) (old new : Outside S K)
     (first last : R) (watchers left : List W) → Spells words (Replace slot)
-    → (whole : MeansWhole view streams (plan_of words) (Over status) old new first last watchers left)
+    → (whole : ExecutesWhole view streams (program_of words) (Over status) old new first last watchers left)
     → HasNoFault streams old new
-    → ServesAlong returning view s whole.with.means.story (devices first Begun watchers)
+    → ServesAlong returning view s whole.with.means.trace (devices first Begun watchers)
     (devices last whole.session left) whole.with.works → slot < s.geometry.n
-    → EachCanReplace view s.geometry whole.with.means.story (devices first Begun watchers)
+    → EachCanReplace view s.geometry whole.with.means.trace (devices first Begun watchers)
     (devices last whole.session left) whole.with.works → IsDone status
 
--- A script is done, if there was memory, where each of its lines can be: the array serves along the story, no fault is counted, and
+-- A script is done, if there was memory, where each of its lines can be: the array serves along the trace, no fault is counted, and
 -- each slot that is to be replaced can be as that step begins. A guarded one may be halted.
 abbrev pub ScriptIsDone : (R W S K : Type 0) → Type 0
 ScriptIsDone R W S K = (returning : Returning) (view : DeviceView R W) (streams : Views S K)
     (words : List (List ℕ)) (job : Job) (lines : List Line) (input : List ℕ) (status : Status)
     (s : State) (old new : Outside S K) (first last : R) (watchers left : List W)
     → Spells words job → IsScripted job
-    → (whole : MeansWhole view streams (plan_of words) (Over status) old new first last watchers left)
+    → (whole : ExecutesWhole view streams (program_of words) (Over status) old new first last watchers left)
     → HasNoFault streams old new
-    → ServesAlong returning view s whole.with.means.story (devices first Begun watchers)
+    → ServesAlong returning view s whole.with.means.trace (devices first Begun watchers)
     (devices last whole.session left) whole.with.works
     → streams.source.left old.source ≡ Some input → IsScriptOf s lines input
-    → EachCanReplace view s.geometry whole.with.means.story (devices first Begun watchers)
+    → EachCanReplace view s.geometry whole.with.means.trace (devices first Begun watchers)
     (devices last whole.session left) whole.with.works → IsFinished job status
 
 -- `guard` is halted exactly where a watcher left, if the list had none that had left

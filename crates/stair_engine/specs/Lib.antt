@@ -9,7 +9,7 @@ pub mod Exercise
 pub mod Came
 pub mod Serving
 pub mod Volumes
-pub mod Plans
+pub mod Programs
 pub mod Create
 pub mod Show
 pub mod Stands

@@ -9,12 +9,12 @@ use Rattle.stair_member.specs.Seats.{Seats}
 use Rattle.stair_state.specs.Represents.{Represents}
 use Rattle.stair_state.specs.State.{State}
 use Rattle.stair_state.specs.Tolerance.{ToleratedSince}
-use Rattle.stair_session.specs.Returning.{NoneReturns}
-use Rattle.stair_session.specs.Session.{ArrayState, IsArray, IsLiveIn, IsRebuiltIn}
-use Rattle.stair_array.specs.Promise.{AreFound, Opened, Session}
+use Rattle.stair_invariant.specs.Returning.{NoneReturns}
+use Rattle.stair_invariant.specs.Session.{ArrayState, IsArray, IsLiveIn, IsRebuiltIn}
+use Rattle.stair_array.specs.Promise.{AreFound, Opened, Phase}
 use Rattle.stair_conf.specs.declared.job.Job.{Job}
 use Rattle.stair_conf.specs.declared.job.Job.TheVariants as job
-use Rattle.stair_story.specs.Sound.{AreSoundChunks, IsSound}
+use Rattle.stair_command.specs.Sound.{AreSoundChunks, IsSound}
 use Rattle.stair_status.specs.declared.status.Status.{Status}
 use Rattle.stair_status.specs.declared.status.Status.TheVariants.{Done}
 
@@ -38,7 +38,7 @@ IsMendedBy job.Rebuild g IsLive IsRebuilt first last = (j : ℕ) → j < g.n →
 IsMendedBy _ g IsLive IsRebuilt first last = ⊤
 
 -- The session has an open array in the end, of which it is so by what the session knows of its slots.
-pub record EndsMended (job : Job) (session : Session) (first last : List Happening) : Type 0 where
+pub record EndsMended (job : Job) (session : Phase) (first last : List Happening) : Type 0 where
   pub array : ArrayState
   pub opened : session ≡ Opened array
   pub unstopped : array.stopped ≡ None

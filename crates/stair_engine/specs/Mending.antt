@@ -7,7 +7,7 @@ use Rattle.stair_super.specs.declared.mark.Mark.{Mark}
 use Rattle.stair_super.specs.declared.mark.Mark.TheVariants.{Live}
 use Rattle.stair_array.specs.Machine.{LookAtSeats, ReplaceSlot, ScrubStripe, SetFrozen, SetLabel, Step}
 use Rattle.stair_status.specs.declared.status.Status.TheVariants.{Done, Gone, OutOfRange}
-use Rattle.stair_story.specs.Plan.{Plan, Over, Put, RebuildAll, take_step, opens_array}
+use Rattle.stair_command.specs.Program.{Program, Over, Put, RebuildAll, take_step, opens_array}
 
 -- SCRUBS
 
@@ -17,17 +17,17 @@ scrubbed_line stripes cells = codes "scrubbed " ++ (decimal stripes
     ++ (codes " stripes cells " ++ (decimal cells ++ 10 ∷ [])))
 
 -- what is put out in the end
-abbrev pub scrubbed : (stripes cells : ℕ) → Plan
+abbrev pub scrubbed : (stripes cells : ℕ) → Program
 scrubbed stripes cells = Put (scrubbed_line stripes cells) (Over Done)
 
 -- so many stripes from this one on, in rising order, after so many cells
-abbrev pub scrubs : Geometry → (stripe left cells : ℕ) → Plan
+abbrev pub scrubs : Geometry → (stripe left cells : ℕ) → Program
 scrubs g stripe zero cells = scrubbed stripe cells
 scrubs g stripe (suc left) cells =
     take_step g.n (ScrubStripe stripe) (λ count. scrubs g (stripe + 1) left (cells + count))
 
-abbrev pub scrub_plan : Plan
-scrub_plan = opens_array (λ g. scrubs g 0 g.stripes 0)
+abbrev pub scrub_program : Program
+scrub_program = opens_array (λ g. scrubs g 0 g.stripes 0)
 
 -- REBUILDS
 
@@ -35,8 +35,8 @@ scrub_plan = opens_array (λ g. scrubs g 0 g.stripes 0)
 abbrev pub rebuilt_line : ℕ → List ℕ
 rebuilt_line steps = codes "rebuild " ++ (decimal steps ++ (codes " steps" ++ 10 ∷ []))
 
-abbrev pub rebuild_plan : Plan
-rebuild_plan =
+abbrev pub rebuild_program : Program
+rebuild_program =
     opens_array (λ g. RebuildAll g.n 0 (λ steps. Put (rebuilt_line steps) (Over Done)))
 
 -- REPLACEMENTS
@@ -44,38 +44,38 @@ rebuild_plan =
 abbrev pub replaced_line : ℕ → List ℕ
 replaced_line slot = codes "replaced " ++ (decimal slot ++ 10 ∷ [])
 
-abbrev pub replaced : ℕ → Plan
+abbrev pub replaced : ℕ → Program
 replaced slot = Put (replaced_line slot) (Over Done)
 
 -- a slot that was rebuilt may be gone again in the end
-abbrev pub if_live : ℕ → Mark → Plan
+abbrev pub if_live : ℕ → Mark → Program
 if_live slot Live = replaced slot
 if_live slot _ = Over (Gone slot)
 
 -- the slot gets the device in it for its own, and all that is rebuilt is rebuilt to its end
-abbrev pub replaces : Geometry → ℕ → Plan
+abbrev pub replaces : Geometry → ℕ → Program
 replaces g slot = take_step g.n (ReplaceSlot slot) (λ done. RebuildAll g.n 0 (λ steps.
     take_step g.n LookAtSeats (λ seats. if_live slot (seats slot).mark)))
 
-abbrev pub if_slot : Geometry → ℕ → Bool → Plan → Plan
-if_slot g slot true plan = plan
-if_slot g slot false plan = Over (OutOfRange slot g.n)
+abbrev pub if_slot : Geometry → ℕ → Bool → Program → Program
+if_slot g slot true program = program
+if_slot g slot false program = Over (OutOfRange slot g.n)
 
-abbrev pub replace_plan : ℕ → Plan
-replace_plan slot =
+abbrev pub replace_program : ℕ → Program
+replace_program slot =
     opens_array (λ g. if_slot g slot (nat_lt slot g.n) (replaces g slot))
 
 -- THE FROZEN MARK AND THE LABEL
 
 -- one step, after which this line is put out
-abbrev pub stamps : Step → List ℕ → Plan
+abbrev pub stamps : Step → List ℕ → Program
 stamps step line = opens_array (λ g. take_step g.n step (λ done. Put line (Over Done)))
 
-abbrev pub freeze_plan : Plan
-freeze_plan = stamps (SetFrozen true) (codes "frozen" ++ 10 ∷ [])
+abbrev pub freeze_program : Program
+freeze_program = stamps (SetFrozen true) (codes "frozen" ++ 10 ∷ [])
 
-abbrev pub thaw_plan : Plan
-thaw_plan = stamps (SetFrozen false) (codes "thawed" ++ 10 ∷ [])
+abbrev pub thaw_program : Program
+thaw_program = stamps (SetFrozen false) (codes "thawed" ++ 10 ∷ [])
 
-abbrev pub label_plan : List ℕ → Plan
-label_plan label = stamps (SetLabel label) (codes "labelled" ++ 10 ∷ [])
+abbrev pub label_program : List ℕ → Program
+label_program label = stamps (SetLabel label) (codes "labelled" ++ 10 ∷ [])

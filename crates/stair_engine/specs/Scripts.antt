@@ -6,15 +6,15 @@ use Rattle.stair_model.specs.Geometry.{Geometry}
 use Rattle.stair_array.specs.Machine.{Nothing, Progress, ReadBlock, RebuildNext, ReplaceSlot, ScrubStripe, WriteBlocks}
 use Rattle.stair_script.specs.declared.line.Line.{Line}
 use Rattle.stair_script.specs.declared.line.Line.TheVariants.{Blank, Read, Write, Scrub, Replace, Rebuild}
-use Rattle.stair_story.specs.declared.fault.Fault.{Fault}
-use Rattle.stair_story.specs.declared.fault.Fault.TheVariants as fault
+use Rattle.stair_command.specs.declared.fault.Fault.{Fault}
+use Rattle.stair_command.specs.declared.fault.Fault.TheVariants as fault
 use Rattle.stair_status.specs.declared.status.Status.TheVariants.{BadLine, Done, Halted, OutOfRange}
-use Rattle.stair_story.specs.Means.{Holds}
-use Rattle.stair_story.specs.Outside.{SinkView}
-use Rattle.stair_story.specs.Plan.{Plan, Over, Ask, Put, if_so, watch_step, watches_array}
-use Rattle.stair_story.specs.Question.{ScriptLine}
-use Rattle.stair_story.specs.Story.{HasPut, IsPart, PutFailed}
-use Rattle.stair_story.specs.Texts.{LineDoes, SCRIPT_LIMIT, by_lines, last_of}
+use Rattle.stair_command.specs.Executes.{Holds}
+use Rattle.stair_command.specs.Outside.{SinkView}
+use Rattle.stair_command.specs.Program.{Program, Over, Ask, Put, if_so, watch_step, watches_array}
+use Rattle.stair_command.specs.Question.{ScriptLine}
+use Rattle.stair_command.specs.Trace.{HasPut, IsPart, PutFailed}
+use Rattle.stair_command.specs.Texts.{LineDoes, SCRIPT_LIMIT, by_lines, last_of}
 use Rattle.stair_engine.specs.Mending.{if_slot, rebuilt_line}
 
 -- REPLIES, each with its end
@@ -35,40 +35,40 @@ admitted_reply slot = codes "admitted " ++ (decimal slot ++ 10 ∷ [])
 -- LINES
 
 -- after a step of a rebuild, of which so many are left: it ends where there was nothing to rebuild
-abbrev pub if_nothing : Plan → Plan → Progress → Plan
+abbrev pub if_nothing : Program → Program → Progress → Program
 if_nothing end more Nothing = end
 if_nothing end more progress = more
 
 -- At most so many steps of a rebuild, up to the first that finds nothing, after so many. The rest takes their number, and whether a
 -- watcher left at one of them or before.
-abbrev pub some_rebuilds : (slots left done : ℕ) → Bool → (ℕ → Bool → Plan) → Plan
+abbrev pub some_rebuilds : (slots left done : ℕ) → Bool → (ℕ → Bool → Program) → Program
 some_rebuilds slots zero done gone k = k done gone
 some_rebuilds slots (suc left) done gone k = watch_step slots RebuildNext (λ progress more.
     if_nothing (k done (gone || more)) (some_rebuilds slots left (done + 1) (gone || more) k)
     progress)
 
 -- the array has this stripe, or the call ends
-abbrev pub if_stripe : Geometry → ℕ → Bool → Plan → Plan
-if_stripe g stripe true plan = plan
-if_stripe g stripe false plan = Over (OutOfRange stripe g.stripes)
+abbrev pub if_stripe : Geometry → ℕ → Bool → Program → Program
+if_stripe g stripe true program = program
+if_stripe g stripe false program = Over (OutOfRange stripe g.stripes)
 
 -- What a line says is done, and then its reply is put out. The rest takes whether a watcher left at it.
-abbrev pub line_plan : Geometry → Line → (Bool → Plan) → Plan
-line_plan g Blank rest = rest false
-line_plan g (Read block) rest = watch_step g.n (ReadBlock block)
+abbrev pub line_program : Geometry → Line → (Bool → Program) → Program
+line_program g Blank rest = rest false
+line_program g (Read block) rest = watch_step g.n (ReadBlock block)
     (λ contents left. Put (read_reply block contents) (rest left))
-line_plan g (Write block contents) rest = watch_step g.n (WriteBlocks block (contents ∷ []))
+line_program g (Write block contents) rest = watch_step g.n (WriteBlocks block (contents ∷ []))
     (λ done left. Put (wrote_reply block) (rest left))
-line_plan g (Scrub stripe) rest = if_stripe g stripe (nat_lt stripe g.stripes)
+line_program g (Scrub stripe) rest = if_stripe g stripe (nat_lt stripe g.stripes)
     (watch_step g.n (ScrubStripe stripe)
     (λ cells left. Put (scrubbed_reply stripe cells) (rest left)))
-line_plan g (Replace slot) rest = if_slot g slot (nat_lt slot g.n)
+line_program g (Replace slot) rest = if_slot g slot (nat_lt slot g.n)
     (watch_step g.n (ReplaceSlot slot) (λ done left. Put (admitted_reply slot) (rest left)))
-line_plan g (Rebuild steps) rest =
+line_program g (Rebuild steps) rest =
     some_rebuilds g.n steps 0 false (λ done left. Put (rebuilt_line done) (rest left))
 
 -- what is put out before the rest, which is nothing for a blank line
-abbrev pub replies : Option (List ℕ) → Plan → Plan
+abbrev pub replies : Option (List ℕ) → Program → Program
 replies None rest = rest
 replies (Some reply) rest = Put reply rest
 
@@ -87,21 +87,21 @@ pub record ReplyIsCut {K : Type 0} (view : SinkView K) (reply : Option (List ℕ
   pub holds : Holds view (PutFailed part) old new
 
 -- so a line is done that is one, and else the call ends with its number
-abbrev pub if_line : Geometry → (number : ℕ) → (Bool → Plan) → Option Line → Plan
+abbrev pub if_line : Geometry → (number : ℕ) → (Bool → Program) → Option Line → Program
 if_line g number rest None = Over (BadLine number)
-if_line g number rest (Some said) = line_plan g said rest
+if_line g number rest (Some said) = line_program g said rest
 
-abbrev pub does_line : Geometry → (number : ℕ) → List ℕ → (Bool → Plan) → Plan
+abbrev pub does_line : Geometry → (number : ℕ) → List ℕ → (Bool → Program) → Program
 does_line g number line rest = Ask (ScriptLine line) (if_line g number rest)
 
 -- SCRIPTS
 
 -- a line has at most so many bytes, without its end
-abbrev pub LINE_LIMIT : ℕ
-LINE_LIMIT = 1100
+abbrev pub MAX_SCRIPT_LINE : ℕ
+MAX_SCRIPT_LINE = 1100
 
 -- A guarded script is halted after a line at which a watcher left. Where the array was opened it is number 0.
-abbrev pub if_halted : Bool → (number : ℕ) → Plan → Bool → Plan
+abbrev pub if_halted : Bool → (number : ℕ) → Program → Bool → Program
 if_halted guarded number rest left =
     if_so guarded (if_so left (Over (Halted number)) rest) rest
 
@@ -110,27 +110,27 @@ abbrev pub script_line : Bool → Geometry → LineDoes (Unit {0})
 script_line guarded g number line so_far rest =
     does_line g number line (if_halted guarded number (rest tt))
 
-abbrev pub script_over : Unit {0} → Plan
+abbrev pub script_over : Unit {0} → Program
 script_over so_far = Over Done
 
-abbrev pub last_line : Bool → Geometry → (number : ℕ) → List ℕ → Plan
+abbrev pub last_line : Bool → Geometry → (number : ℕ) → List ℕ → Program
 last_line guarded g number line = last_of (script_line guarded g) script_over number line tt
 
 -- what is left of a script of at most so many bytes more, of whose line of this number these bytes came
-abbrev pub lines : Bool → Geometry → (room number : ℕ) → List ℕ → Plan
+abbrev pub lines : Bool → Geometry → (room number : ℕ) → List ℕ → Program
 lines guarded g room number line =
-    by_lines LINE_LIMIT (script_line guarded g) script_over room number line tt
+    by_lines MAX_SCRIPT_LINE (script_line guarded g) script_over room number line tt
 
-abbrev pub all_lines : Bool → Geometry → Plan
+abbrev pub all_lines : Bool → Geometry → Program
 all_lines guarded g = lines guarded g SCRIPT_LIMIT 1 []
 
 -- `run` does all lines, and `guard` those up to one at which a watcher left
-abbrev pub script_plan : Bool → Plan
-script_plan guarded =
+abbrev pub script_program : Bool → Program
+script_program guarded =
     watches_array (λ g left. if_halted guarded 0 (all_lines guarded g) left)
 
-abbrev pub run_plan : Plan
-run_plan = script_plan false
+abbrev pub run_program : Program
+run_program = script_program false
 
-abbrev pub guard_plan : Plan
-guard_plan = script_plan true
+abbrev pub guard_program : Program
+guard_program = script_program true

@@ -3,12 +3,12 @@ use Rattle.std.specs.Prelude.{◌≡◌, Result, Ok, Err, MatchResult}
 use Rattle.stair_member.specs.Membership.{Membership}
 use Rattle.stair_member.specs.Survey.{Surveys}
 use Rattle.stair_member.specs.declared.fault.SurveyFault.{SurveyFault}
-use Rattle.stair_story.specs.Outside.{SinkView}
-use Rattle.stair_story.specs.Rack.{RackView, told_of}
+use Rattle.stair_command.specs.Outside.{SinkView}
+use Rattle.stair_command.specs.Rack.{RackView, told_of}
 use Rattle.stair_engine.specs.Show.{show_text}
-use Rattle.stair_story.specs.Streams.{PutsAll}
-use Rattle.stair_story.specs.declared.fault.Fault.{Fault}
-use Rattle.stair_story.specs.declared.fault.Fault.TheVariants.{Output, Survey}
+use Rattle.stair_command.specs.Streams.{PutsAll}
+use Rattle.stair_command.specs.declared.fault.Fault.{Fault}
+use Rattle.stair_command.specs.declared.fault.Fault.TheVariants.{Output, Survey}
 use Rattle.stair_status.specs.declared.status.Status.{Status}
 use Rattle.stair_status.specs.declared.status.Status.TheVariants.{Done}
 

@@ -7,8 +7,8 @@ use Rattle.stair_rack.specs.Stretch.{NothingReturned}
 use Rattle.stair_state.specs.Represents.{Represents}
 use Rattle.stair_state.specs.State.{State, without_seats}
 use Rattle.stair_state.specs.Tolerance.{IsTolerated}
-use Rattle.stair_session.specs.Returning.{Returning, StandsFor}
-use Rattle.stair_story.specs.Sure.{IsCalmBetween}
+use Rattle.stair_invariant.specs.Returning.{Returning, StandsFor}
+use Rattle.stair_command.specs.Sure.{StaysWithinToleranceBetween}
 
 -- Where the rack represented a state, no medium came back, and what has failed is within tolerance, it represents the state,
 -- marks and joined numbers aside.
@@ -28,4 +28,4 @@ pub record StandsThroughout (returning : Returning) (old new : List Happening) :
   pub before : List Happening
   pub since : Ran any_call before old
   pub stands : StandsFor returning state old
-  pub calm : IsCalmBetween returning state.geometry before old new
+  pub calm : StaysWithinToleranceBetween returning state.geometry before old new

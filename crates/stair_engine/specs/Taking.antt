@@ -4,17 +4,17 @@ use Rattle.std.specs.List.{concat}
 use Rattle.stair_model.specs.CellSet.{CellSet}
 use Rattle.stair_model.specs.Geometry.{Geometry, data_cells}
 use Rattle.stair_model.specs.Stripe.{Stripe, IsSector}
-use Rattle.stair_story.specs.declared.fault.Fault.{Fault}
-use Rattle.stair_story.specs.declared.fault.Fault.TheVariants as fault
-use Rattle.stair_story.specs.declared.intake.Intake.{Intake}
-use Rattle.stair_story.specs.Answer.{HasBytes, map_bytes}
-use Rattle.stair_story.specs.Encode.{HasBlocks, HoldsBlocks}
-use Rattle.stair_story.specs.Means.{Gives}
-use Rattle.stair_story.specs.Outside.{SourceView}
-use Rattle.stair_story.specs.Restore.{IsErasedBy}
-use Rattle.stair_story.specs.Story.{Took, TookLast, TakeFailed}
-use Rattle.stair_story.specs.Taking.{TakesBytes}
-use Rattle.stair_engine.specs.Plans.{TEXT_LIMIT}
+use Rattle.stair_command.specs.declared.fault.Fault.{Fault}
+use Rattle.stair_command.specs.declared.fault.Fault.TheVariants as fault
+use Rattle.stair_command.specs.declared.intake.Intake.{Intake}
+use Rattle.stair_command.specs.Answer.{HasBytes, map_bytes}
+use Rattle.stair_command.specs.Encode.{HasBlocks, HoldsBlocks}
+use Rattle.stair_command.specs.Executes.{Gives}
+use Rattle.stair_command.specs.Outside.{SourceView}
+use Rattle.stair_command.specs.Restore.{IsErasedBy}
+use Rattle.stair_command.specs.Trace.{Took, TookLast, TakeFailed}
+use Rattle.stair_command.specs.Taking.{TakesBytes}
+use Rattle.stair_engine.specs.Programs.{MAX_GEOMETRY_TEXT}
 
 -- a map was taken, and these cells are erased by it
 abbrev pub TakesMap : {S : Type 0} → SourceView S → Geometry → Intake → Intake → CellSet → S → S →
@@ -44,11 +44,11 @@ IsMapAndCells g stripe erased input = IsErasedBy g (take (map_bytes g) input) er
 
 -- a text of at most so many bytes, and then the end; or it was refused
 abbrev pub TakesText : {S : Type 0} → SourceView S → Result ℕ Fault → List ℕ → S → S → Type 0
-TakesText view (Ok count) into old new = (count < TEXT_LIMIT + 1)
+TakesText view (Ok count) into old new = (count < MAX_GEOMETRY_TEXT + 1)
     × Gives view (TookLast (take count into)) old new
 TakesText view (Err (fault.Length needed took)) into old new =
-    (needed ≡ TEXT_LIMIT) × (took ≡ TEXT_LIMIT + 1) × ((bytes : List ℕ)
-    × (length bytes ≡ TEXT_LIMIT + 1) × Gives view (Took bytes) old new)
+    (needed ≡ MAX_GEOMETRY_TEXT) × (took ≡ MAX_GEOMETRY_TEXT + 1) × ((bytes : List ℕ)
+    × (length bytes ≡ MAX_GEOMETRY_TEXT + 1) × Gives view (Took bytes) old new)
 TakesText view (Err fault.Input) into old new =
-    (taken : List ℕ) × (length taken < TEXT_LIMIT + 1) × Gives view (TakeFailed taken) old new
+    (taken : List ℕ) × (length taken < MAX_GEOMETRY_TEXT + 1) × Gives view (TakeFailed taken) old new
 TakesText view (Err _) into old new = ⊥

@@ -1,7 +1,7 @@
 -- What the commands on volumes do: an array is opened, and its volumes are read or changed.
 use Rattle.stair_conf.specs.declared.job.VolumeJob.{VolumeJob}
-use Rattle.stair_story.specs.Plan.{Plan, opens_array}
-use Rattle.stair_volume.specs.Commands.{volume_plan}
+use Rattle.stair_command.specs.Program.{Program, opens_array}
+use Rattle.stair_volume.specs.Commands.{volume_program}
 
-abbrev pub volumes_plan : VolumeJob → Plan
-volumes_plan job = opens_array (volume_plan job)
+abbrev pub volumes_program : VolumeJob → Program
+volumes_program job = opens_array (volume_program job)

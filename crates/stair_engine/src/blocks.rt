@@ -1,14 +1,14 @@
 ghost use Rattle.std.specs.Prelude.{◌≡◌, ◌+◌, ◌≤◌, OnOk, IfErr};
 ghost use Rattle.stair_model.specs.Geometry.{IsWithinLimits, data_cells};
 ghost use Rattle.stair_model.specs.Stripe.{IsStripeOf, IsWellFormed};
-ghost use Rattle.stair_story.specs.Answer.{block_bytes as block_bytes_of};
-ghost use Rattle.stair_story.specs.Outside.{source_view};
-ghost use Rattle.stair_story.specs.Taking.{CutsShort};
+ghost use Rattle.stair_command.specs.Answer.{block_bytes as block_bytes_of};
+ghost use Rattle.stair_command.specs.Outside.{source_view};
+ghost use Rattle.stair_command.specs.Taking.{CutsShort};
 ghost use Rattle.stair_engine.specs.Taking.{TakesBlocksTo};
 
 use stair_base::{Geometry, SECTOR, Stripe};
+use stair_command::{Fault, Intake};
 use stair_rack::Source;
-use stair_story::{Fault, Intake};
 
 /// The bytes of the blocks of a stripe.
 pub(crate) fn block_bytes(geometry: &Geometry) -> u64

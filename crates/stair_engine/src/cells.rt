@@ -2,14 +2,14 @@ ghost use Rattle.std.specs.Prelude.{◌≡◌, ◌+◌, ◌≤◌, OnOk, IfErr};
 ghost use Rattle.std.specs.List.{concat};
 ghost use Rattle.stair_model.specs.Geometry.{IsWithinLimits};
 ghost use Rattle.stair_model.specs.Stripe.{IsStripeOf, IsWellFormed};
-ghost use Rattle.stair_story.specs.Answer.{cell_bytes as cell_bytes_of};
-ghost use Rattle.stair_story.specs.Outside.{sink_view, source_view};
-ghost use Rattle.stair_story.specs.Streams.{PutsAll};
-ghost use Rattle.stair_story.specs.Taking.{CutsShort, TakesBytes};
+ghost use Rattle.stair_command.specs.Answer.{cell_bytes as cell_bytes_of};
+ghost use Rattle.stair_command.specs.Outside.{sink_view, source_view};
+ghost use Rattle.stair_command.specs.Streams.{PutsAll};
+ghost use Rattle.stair_command.specs.Taking.{CutsShort, TakesBytes};
 
 use stair_base::{Geometry, SECTOR, Stripe};
+use stair_command::{Fault, Intake, put_all};
 use stair_rack::{Sink, Source};
-use stair_story::{Fault, Intake, put_all};
 
 /// The bytes of the cells of a stripe.
 pub(crate) fn cell_bytes(geometry: &Geometry) -> u64

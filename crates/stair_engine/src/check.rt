@@ -1,19 +1,19 @@
 ghost use Rattle.std.specs.Prelude.{ℕ};
 ghost use Rattle.stair_model.specs.Geometry.{IsWithinLimits};
 ghost use Rattle.stair_model.specs.Stripe.{IsStripeOf, IsWellFormed};
-ghost use Rattle.stair_story.specs.Answer.{HasBytes, bytes_needed};
-ghost use Rattle.stair_story.specs.Fault.{status_of};
-ghost use Rattle.stair_story.specs.Means.{Means};
-ghost use Rattle.stair_story.specs.Outside.{outside, source_view, views};
-ghost use Rattle.stair_story.specs.Plan.{Over};
-ghost use Rattle.stair_engine.specs.Plans.{stripe_plan};
-ghost use Rattle.stair_story.specs.Taking.{TakesWhole};
+ghost use Rattle.stair_command.specs.Answer.{HasBytes, bytes_needed};
+ghost use Rattle.stair_command.specs.Fault.{status_of};
+ghost use Rattle.stair_command.specs.Executes.{Executes};
+ghost use Rattle.stair_command.specs.Outside.{outside, source_view, views};
+ghost use Rattle.stair_command.specs.Program.{Over};
+ghost use Rattle.stair_engine.specs.Programs.{stripe_program};
+ghost use Rattle.stair_command.specs.Taking.{TakesWhole};
 ghost use Rattle.stair_conf.specs.declared.job.StripeCommand.TheVariants.{Check};
 
 use crate::cells::{cell_bytes, take_stripe};
 use stair_base::{Geometry, Stripe, first_broken};
+use stair_command::{Fault, Intake, Status, put_all};
 use stair_rack::{Sink, Source};
-use stair_story::{Fault, Intake, Status, put_all};
 use std::alloc::Global;
 
 /// Takes the cells of a stripe row by row, and tells whether they are a codeword.
@@ -23,8 +23,8 @@ pub(crate) fn check<S: Source, K: Sink>(
     input: &mut S,
     output: &mut K,
 ) -> Result<Status, Fault>
-    ensures { (counter : ℕ) → Means (views S.Source K.Sink)
-        (stripe_plan Check geometry.now) (Over (status_of result))
+    ensures { (counter : ℕ) → Executes (views S.Source K.Sink)
+        (stripe_program Check geometry.now) (Over (status_of result))
         (outside input.old output.old counter) (outside input.new output.new counter) }
 {
     let mut stripe = Stripe::new(alloc, geometry)?;

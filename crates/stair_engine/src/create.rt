@@ -1,19 +1,19 @@
 ghost use Rattle.std.specs.Prelude.{◌≡◌, ◌+◌, ℕ, IfOk, IfErr, length, string_bytes};
-ghost use Rattle.stair_story.specs.Fault.{status_of};
-ghost use Rattle.stair_story.specs.Outside.{outside, source_view, views};
-ghost use Rattle.stair_story.specs.Plan.{Over};
-ghost use Rattle.stair_engine.specs.Plans.{TEXT_LIMIT as LIMIT, create_plan, created_line as line_of_created};
-ghost use Rattle.stair_story.specs.Rack.{MeansOver, rack_view};
+ghost use Rattle.stair_command.specs.Fault.{status_of};
+ghost use Rattle.stair_command.specs.Outside.{outside, source_view, views};
+ghost use Rattle.stair_command.specs.Program.{Over};
+ghost use Rattle.stair_engine.specs.Programs.{MAX_GEOMETRY_TEXT as LIMIT, create_program, created_line as line_of_created};
+ghost use Rattle.stair_command.specs.Rack.{ExecutesOver, rack_view};
 ghost use Rattle.stair_engine.specs.Taking.{TakesText};
 
 use stair_base::Geometry;
+use stair_command::{Fault, Filled, Status, put_all, take_at_least};
 use stair_conf::read_config;
 use stair_rack::{Rack, Sink, Source};
-use stair_story::{Fault, Filled, Status, put_all, take_at_least};
 use std::alloc::{AllocError, Global};
 
 // A geometry text has at most so many bytes.
-const TEXT_LIMIT: usize = 4096;
+const MAX_GEOMETRY_TEXT: usize = 4096;
 
 /// Takes a geometry text, makes the array that it says on the devices of the rack, and puts out a line on it.
 pub(crate) fn create<R: Rack, S: Source, K: Sink>(
@@ -22,12 +22,12 @@ pub(crate) fn create<R: Rack, S: Source, K: Sink>(
     input: &mut S,
     output: &mut K,
 ) -> Result<Status, Fault>
-    ensures { (counter : ℕ) → MeansOver (rack_view R.Rack)
-        (views S.Source K.Sink) create_plan (Over (status_of result))
+    ensures { (counter : ℕ) → ExecutesOver (rack_view R.Rack)
+        (views S.Source K.Sink) create_program (Over (status_of result))
         (outside input.old output.old counter) (outside input.new output.new counter)
         rack.old rack.new }
 {
-    let mut text = [0; TEXT_LIMIT + 1];
+    let mut text = [0; MAX_GEOMETRY_TEXT + 1];
     let length = take_text(input, &mut text)?;
     let geometry = read_config(alloc, &text[..length])?;
     // Memory is asked for before the devices are touched.
@@ -46,8 +46,8 @@ fn take_text<S: Source>(input: &mut S, into: &mut [u8]) -> Result<usize, Fault>
     match take_at_least(input, into.len(), into) {
         Filled::Short(count) => Ok(count),
         Filled::Enough(_) => Err(Fault::Length {
-            needed: TEXT_LIMIT as u64,
-            took: TEXT_LIMIT as u64 + 1,
+            needed: MAX_GEOMETRY_TEXT as u64,
+            took: MAX_GEOMETRY_TEXT as u64 + 1,
         }),
         Filled::Failed => Err(Fault::Input),
     }

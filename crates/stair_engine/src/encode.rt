@@ -1,13 +1,13 @@
 ghost use Rattle.stair_model.specs.Geometry.{IsWithinLimits};
 ghost use Rattle.stair_model.specs.Stripe.{IsStripeOf, IsWellFormed};
-ghost use Rattle.stair_story.specs.Answer.{block_bytes as block_bytes_of};
-ghost use Rattle.stair_story.specs.Encode.{IsCostOfMethod};
-ghost use Rattle.stair_story.specs.Fault.{status_of};
-ghost use Rattle.stair_story.specs.Means.{Means};
-ghost use Rattle.stair_story.specs.Outside.{outside, source_view, views};
-ghost use Rattle.stair_story.specs.Plan.{Over};
-ghost use Rattle.stair_engine.specs.Plans.{input_plan, stripe_plan};
-ghost use Rattle.stair_story.specs.Taking.{TakesWhole};
+ghost use Rattle.stair_command.specs.Answer.{block_bytes as block_bytes_of};
+ghost use Rattle.stair_command.specs.Encode.{IsCostOfMethod};
+ghost use Rattle.stair_command.specs.Fault.{status_of};
+ghost use Rattle.stair_command.specs.Executes.{Executes};
+ghost use Rattle.stair_command.specs.Outside.{outside, source_view, views};
+ghost use Rattle.stair_command.specs.Program.{Over};
+ghost use Rattle.stair_engine.specs.Programs.{input_program, stripe_program};
+ghost use Rattle.stair_command.specs.Taking.{TakesWhole};
 ghost use Rattle.stair_engine.specs.Taking.{HoldsInput};
 ghost use Rattle.stair_conf.specs.declared.job.StripeCommand.TheVariants.{Encode};
 
@@ -16,10 +16,10 @@ use crate::cells::put_stripe;
 use crate::task::by_of;
 use stair_base::{Geometry, Stripe, StripeCode};
 use stair_codec::Codec;
+use stair_command::{Fault, Intake, Status};
 use stair_conf::Method;
 use stair_gf::Steps;
 use stair_rack::{Sink, Source};
-use stair_story::{Fault, Intake, Status};
 use std::alloc::Global;
 use std::sync::ledger::Ledger;
 
@@ -32,8 +32,8 @@ pub(crate) fn encode<S: Source, K: Sink, L: Ledger>(
     output: &mut K,
     steps: &mut Steps<L>,
 ) -> Result<Status, Fault>
-    ensures { Means (views S.Source K.Sink)
-        (stripe_plan (Encode method) geometry.now) (Over (status_of result))
+    ensures { Executes (views S.Source K.Sink)
+        (stripe_program (Encode method) geometry.now) (Over (status_of result))
         (outside input.old output.old steps.old) (outside input.new output.new steps.new) }
 {
     let mut stripe = Stripe::new(alloc, geometry)?;
@@ -53,8 +53,8 @@ fn encode_by<C: StripeCode, S: Source, K: Sink, L: Ledger>(
     requires cost { IsCostOfMethod method (C.shape code.old) (C.cost code.old) }
     requires of { IsStripeOf (C.shape code.old) stripe.old }
     requires well_formed { IsWellFormed stripe.old }
-    ensures { Means (views S.Source K.Sink)
-        (input_plan (Encode method) (C.shape code.old)) (Over (status_of result))
+    ensures { Executes (views S.Source K.Sink)
+        (input_program (Encode method) (C.shape code.old)) (Over (status_of result))
         (outside input.old output.old steps.old) (outside input.new output.new steps.new) }
 {
     let geometry = code.geometry();

@@ -1,20 +1,20 @@
 ghost use Rattle.std.specs.Prelude.{◌≡◌, ◌+◌, ◌<◌, ◌≤◌, ℕ, IfErr, IfOk};
-ghost use Rattle.stair_array.specs.Promise.{Opened as IsOpen};
+ghost use Rattle.stair_array.specs.Promise.{Opened};
 ghost use Rattle.stair_engine.specs.declared.exercise.Exercised.{Exercised};
-ghost use Rattle.stair_engine.specs.Exercise.{exercise_plan, exercised_line as line_of_exercised, exercises, next_number as number_behind, none_exercised, step_one};
-ghost use Rattle.stair_story.specs.Comes.{ComesTo};
-ghost use Rattle.stair_story.specs.Devices.{MeansWhole, device_view, devices};
-ghost use Rattle.stair_story.specs.Fault.{status_of, status_of_fault};
-ghost use Rattle.stair_story.specs.Outside.{outside, sink_alone};
-ghost use Rattle.stair_story.specs.Plan.{Over, Plan};
-ghost use Rattle.stair_story.specs.Rack.{rack_view};
+ghost use Rattle.stair_engine.specs.Exercise.{exercise_program, exercised_line as line_of_exercised, exercises, next_number as number_behind, none_exercised, step_one};
+ghost use Rattle.stair_command.specs.Comes.{ExecutesOnDevices};
+ghost use Rattle.stair_command.specs.Devices.{ExecutesWhole, device_view, devices};
+ghost use Rattle.stair_command.specs.Fault.{status_of, status_of_fault};
+ghost use Rattle.stair_command.specs.Outside.{outside, sink_alone};
+ghost use Rattle.stair_command.specs.Program.{Over, Program};
+ghost use Rattle.stair_command.specs.Rack.{rack_view};
 ghost use Rattle.stair_watch.specs.WatcherList.{AllStay};
 
 use crate::line::put_line;
 use crate::open::session;
 use stair_base::{SECTOR, StripeCode};
+use stair_command::{Fault, ObservedArray, Status};
 use stair_rack::{Rack, Sink, Watcher};
-use stair_story::{Fault, Opened, Status};
 use stair_watch::Line;
 use std::alloc::Global;
 
@@ -40,10 +40,10 @@ pub(crate) fn exercise<R: Rack, K: Sink>(
     watchers: &mut Vec<Box<dyn Watcher>>,
 ) -> Result<Status, Fault>
     requires stay { AllStay hears watchers.old.items }
-    ensures means { (counter : ℕ) → MeansWhole
+    ensures means { (counter : ℕ) → ExecutesWhole
         (device_view (rack_view R.Rack) hears)
         (sink_alone K.Sink)
-        (exercise_plan number steps) (Over (status_of result))
+        (exercise_program number steps) (Over (status_of result))
         (outside tt output.old counter) (outside tt output.new counter)
         rack.old rack.new watchers.old.items watchers.new.items }
     ensures stay { AllStay hears watchers.new.items }
@@ -61,7 +61,7 @@ pub(crate) fn exercise<R: Rack, K: Sink>(
 
 // Takes so many steps, by the numbers after this one, and answers what they came to.
 fn take_steps<C: StripeCode, R: Rack>(
-    array: &mut Opened<C>,
+    array: &mut ObservedArray<C>,
     first: u64,
     steps: u64,
     rack: &mut R,
@@ -69,16 +69,16 @@ fn take_steps<C: StripeCode, R: Rack>(
 ) -> Result<Exercised, Fault>
     requires few { steps ≤ 1000000 }
     requires stay { AllStay hears watchers.old.items }
-    ensures done { IfOk result (λ came. (k : Exercised → Plan) → ComesTo
+    ensures done { IfOk result (λ came. (k : Exercised → Program) → ExecutesOnDevices
         (device_view (rack_view R.Rack) hears)
         (exercises array.old.member.array.geometry steps first none_exercised k) (k came)
-        (devices rack.old (IsOpen array.old) watchers.old.items)
-        (devices rack.new (IsOpen array.new) watchers.new.items)) }
-    ensures refused { IfErr result (λ fault. (k : Exercised → Plan) → ComesTo
+        (devices rack.old (Opened array.old) watchers.old.items)
+        (devices rack.new (Opened array.new) watchers.new.items)) }
+    ensures refused { IfErr result (λ fault. (k : Exercised → Program) → ExecutesOnDevices
         (device_view (rack_view R.Rack) hears)
         (exercises array.old.member.array.geometry steps first none_exercised k) (Over (status_of_fault fault))
-        (devices rack.old (IsOpen array.old) watchers.old.items)
-        (devices rack.new (IsOpen array.new) watchers.new.items)) }
+        (devices rack.old (Opened array.old) watchers.old.items)
+        (devices rack.new (Opened array.new) watchers.new.items)) }
     ensures geometry { array.new.member.array.geometry ≡ array.old.member.array.geometry }
     ensures stay { AllStay hears watchers.new.items }
 {
@@ -99,7 +99,7 @@ fn take_steps<C: StripeCode, R: Rack>(
 
 // Takes the step of this number, and answers what all came to then.
 fn take_step<C: StripeCode, R: Rack>(
-    array: &mut Opened<C>,
+    array: &mut ObservedArray<C>,
     number: u64,
     so_far: Exercised,
     rack: &mut R,
@@ -107,18 +107,18 @@ fn take_step<C: StripeCode, R: Rack>(
 ) -> Result<Exercised, Fault>
     requires few { so_far.reads + so_far.writes + so_far.scrubs < 1000000 }
     requires stay { AllStay hears watchers.old.items }
-    ensures done { IfOk result (λ came. (k : Exercised → Plan) → ComesTo
+    ensures done { IfOk result (λ came. (k : Exercised → Program) → ExecutesOnDevices
         (device_view (rack_view R.Rack) hears)
         (step_one array.old.member.array.geometry number so_far k) (k came)
-        (devices rack.old (IsOpen array.old) watchers.old.items)
-        (devices rack.new (IsOpen array.new) watchers.new.items)) }
+        (devices rack.old (Opened array.old) watchers.old.items)
+        (devices rack.new (Opened array.new) watchers.new.items)) }
     ensures one { IfOk result (λ came. came.reads + came.writes + came.scrubs
         ≡ so_far.reads + so_far.writes + so_far.scrubs + 1) }
-    ensures refused { IfErr result (λ fault. (k : Exercised → Plan) → ComesTo
+    ensures refused { IfErr result (λ fault. (k : Exercised → Program) → ExecutesOnDevices
         (device_view (rack_view R.Rack) hears)
         (step_one array.old.member.array.geometry number so_far k) (Over (status_of_fault fault))
-        (devices rack.old (IsOpen array.old) watchers.old.items)
-        (devices rack.new (IsOpen array.new) watchers.new.items)) }
+        (devices rack.old (Opened array.old) watchers.old.items)
+        (devices rack.new (Opened array.new) watchers.new.items)) }
     ensures geometry { array.new.member.array.geometry ≡ array.old.member.array.geometry }
     ensures stay { AllStay hears watchers.new.items }
 {

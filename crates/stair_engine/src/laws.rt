@@ -2,10 +2,10 @@
 
 ghost use Rattle.std.specs.Prelude.{ℕ, ◌↔◌, List};
 ghost use Rattle.stair_model.specs.Geometry.{Geometry};
-ghost use Rattle.stair_story.specs.Answer.{IsAnswer};
+ghost use Rattle.stair_command.specs.Answer.{IsAnswer};
 ghost use Rattle.stair_engine.specs.Laws.{
   AllIsComplete,
-  AllIsCompleteWherever,
+  AllIsCompleteWithReinsertion,
   AllIsKept,
   ArrayIsLeft,
   ArrayIsMade,
@@ -31,17 +31,17 @@ ghost use Rattle.stair_engine.specs.Laws.{
   VolumesAreChanged,
   VolumesAreReadAlike,
 };
-ghost use Rattle.stair_story.specs.Outside.{views};
+ghost use Rattle.stair_command.specs.Outside.{views};
 ghost use Rattle.stair_status.specs.declared.status.Status.{Status};
 ghost use Rattle.stair_conf.specs.declared.job.StripeCommand.TheVariants.{Restore};
 
 use stair_rack::{Sink, Source};
 
 /// What follows from a call that means what its words say. It does nothing.
-pub fn plan_laws<R, W, S: Source, K: Sink>()
+pub fn program_laws<R, W, S: Source, K: Sink>()
     // the words spell no job exactly where the answer is Usage, if there was memory
     ensures usage { UsageIsExact S K }
-    // `plan 4 1 2 1` is done, if there was memory and the sink counts no fault: so no other status answers every call
+    // `program 4 1 2 1` is done, if there was memory and the sink counts no fault: so no other status answers every call
     ensures constant { PlanIsDone S K }
     // of a command on one stripe: limits, cause, what is taken, that the end is looked for, what is put out, and the
     // steps, by the status
@@ -69,8 +69,8 @@ pub fn plan_laws<R, W, S: Source, K: Sink>()
     ensures spared { ArraysAreSpared R W S K }
     // a job is done where it can be, if there was memory
     ensures complete { AllIsComplete R W S K }
-    // and so it is along the story of its call, whether media come back or not
-    ensures complete_wherever { AllIsCompleteWherever R W S K }
+    // and so it is along the trace of its call, whether media come back or not
+    ensures complete_with_reinsertion { AllIsCompleteWithReinsertion R W S K }
     // and so is a replacement by any medium, where its slot is Down and the medium fit as that step begins
     ensures replaced { ReplacementIsDone R W S K }
     // and so is a script, where each of its lines can be done; a guarded one may be halted

@@ -32,25 +32,25 @@ ghost use Rattle.stair_conf.specs.declared.job.Job.{Job as Jobs};
 ghost use Rattle.stair_conf.specs.declared.job.Job.TheVariants.{Create, Guard, Scrub, Serve, Volume};
 ghost use Rattle.stair_conf.specs.declared.job.VolumeJob.{VolumeJob as VolumeJobs};
 ghost use Rattle.stair_conf.specs.declared.job.VolumeJob.TheVariants.{Read};
-ghost use Rattle.stair_session.specs.Returning.{AnyReturns, Returning};
+ghost use Rattle.stair_invariant.specs.Returning.{AnyReturns, Returning};
 ghost use Rattle.stair_engine.specs.Answered.{AnswersClient};
 ghost use Rattle.stair_engine.specs.Bounds.{BoundsDraws};
 ghost use Rattle.stair_engine.specs.Changed.{ChangesVolumes, ReadsAlike};
-ghost use Rattle.stair_engine.specs.Complete.{IsComplete, IsCompleteWherever};
+ghost use Rattle.stair_engine.specs.Complete.{IsComplete, IsCompleteWithReinsertion};
 ghost use Rattle.stair_engine.specs.Counted.{TellsCount};
 ghost use Rattle.stair_engine.specs.Create.{IsOnceMade, MakesArray, SparesArrays};
 ghost use Rattle.stair_monitor.specs.Reports.{status_of as status_of_report};
-ghost use Rattle.stair_story.specs.Fault.{status_of};
+ghost use Rattle.stair_command.specs.Fault.{status_of};
 ghost use Rattle.stair_engine.specs.Halts.{IsGuarded};
 ghost use Rattle.stair_engine.specs.Jobs.{IsMade, MayWrite, NotSpelled};
 ghost use Rattle.stair_engine.specs.Mended.{IsMended};
-ghost use Rattle.stair_story.specs.Devices.{MeansWhole, device_view};
-ghost use Rattle.stair_story.specs.Headline.{IsBorneOut};
-ghost use Rattle.stair_story.specs.Means.{Means};
-ghost use Rattle.stair_story.specs.Outside.{outside, sink_view, views};
-ghost use Rattle.stair_story.specs.Plan.{Over};
-ghost use Rattle.stair_engine.specs.Plans.{job_plan, plan_of, stripe_plan};
-ghost use Rattle.stair_story.specs.Rack.{rack_view};
+ghost use Rattle.stair_command.specs.Devices.{ExecutesWhole, device_view};
+ghost use Rattle.stair_command.specs.Headline.{RefinesProgram};
+ghost use Rattle.stair_command.specs.Executes.{Executes};
+ghost use Rattle.stair_command.specs.Outside.{outside, sink_view, views};
+ghost use Rattle.stair_command.specs.Program.{Over};
+ghost use Rattle.stair_engine.specs.Programs.{job_program, program_of, stripe_program};
+ghost use Rattle.stair_command.specs.Rack.{rack_view};
 ghost use Rattle.stair_engine.specs.Stands.{ArrayStands};
 ghost use Rattle.stair_watch.specs.WatcherList.{AllStay};
 
@@ -68,12 +68,12 @@ use scrub::scrub;
 use serve::serve;
 use show::show;
 use stair_base::Geometry;
+use stair_command::Fault;
+pub use stair_command::Status;
 use stair_conf::{Job, StripeCommand, WordsFault, read_words};
 use stair_gf::Steps;
 use stair_monitor::{ReportFault, report};
 use stair_rack::{Rack, Sink, Source, Watcher};
-use stair_story::Fault;
-pub use stair_story::Status;
 use stamp::{freeze, label, thaw};
 use std::alloc::Global;
 use std::sync::ledger::Ledger;
@@ -128,9 +128,9 @@ pub fn stair<R: Rack, S: Source, K: Sink, L: Ledger>(
     // None of the watchers has left.
     requires { AllStay hears watchers.old.items }
 
-    // The call went as the plan of the words says, and source, sink, counter, rack and watchers bear it out.
-    ensures borne_out { IsBorneOut (device_view (rack_view R.Rack) hears) (views S.Source K.Sink)
-        (plan_of (map string_bytes words.now)) (Over result)
+    // The call went as the program of the words says, and source, sink, counter, rack and watchers bear it out.
+    ensures refines { RefinesProgram (device_view (rack_view R.Rack) hears) (views S.Source K.Sink)
+        (program_of (map string_bytes words.now)) (Over result)
         (outside input.old output.old steps.old) (outside input.new output.new steps.new)
         rack.old rack.new watchers.old.items watchers.new.items }
 
@@ -163,21 +163,21 @@ pub fn stair<R: Rack, S: Source, K: Sink, L: Ledger>(
         rack.old rack.new }
 
     // `guard` is halted exactly after the first line at which a watcher left, once its steps were done and its reply was put out; up
-    // to there it went as `run` does. A watcher that tells its patience is waiting for more where none left.
+    // to there it went as `run` does. A watcher that tells its remaining quota is waiting for more where none left.
     ensures halted { (events fences : ℕ) → Spells (map string_bytes words.now) (Guard events fences) →
         IsGuarded (device_view (rack_view R.Rack) hears) (views S.Source K.Sink) (map string_bytes words.now) result
         (outside input.old output.old steps.old) (outside input.new output.new steps.new)
         rack.old rack.new watchers.old.items watchers.new.items }
 
-    // So it is too where media that were pulled are put back, along each story that the call follows: where the array serves along it,
+    // So it is too where media that were pulled are put back, along each trace that the call follows: where the array serves along it,
     // failures staying within tolerance.
-    ensures complete_wherever { (job : Jobs) → Spells (map string_bytes words.now) job →
-        IsCompleteWherever AnyReturns
+    ensures complete_with_reinsertion { (job : Jobs) → Spells (map string_bytes words.now) job →
+        IsCompleteWithReinsertion AnyReturns
         (device_view (rack_view R.Rack) hears) (views S.Source K.Sink) (map string_bytes words.now) job result
         (outside input.old output.old steps.old) (outside input.new output.new steps.new)
         rack.old rack.new watchers.old.items watchers.new.items }
 
-    // `serve` answers no READ with an error of the devices, and no WRITE unless the array is frozen, along each story that bears out the
+    // `serve` answers no READ with an error of the devices, and no WRITE unless the array is frozen, along each trace that bears out the
     // call, where the array serves along it, whether media come back or not.
     ensures answered { Spells (map string_bytes words.now) Serve → (returning : Returning)
         → AnswersClient returning
@@ -240,8 +240,8 @@ fn work<R: Rack, S: Source, K: Sink, L: Ledger>(
 ) -> Status
     requires some { IsMade job }
     requires stay { AllStay hears watchers.old.items }
-    ensures means { MeansWhole
-        (device_view (rack_view R.Rack) hears) (views S.Source K.Sink) (job_plan job) (Over result)
+    ensures means { ExecutesWhole
+        (device_view (rack_view R.Rack) hears) (views S.Source K.Sink) (job_program job) (Over result)
         (outside input.old output.old steps.old) (outside input.new output.new steps.new)
         rack.old rack.new watchers.old.items watchers.new.items }
     ensures stay { AllStay hears watchers.new.items }
@@ -332,8 +332,8 @@ fn run<S: Source, K: Sink, L: Ledger>(
     output: &mut K,
     steps: &mut Steps<L>,
 ) -> Result<Status, Fault>
-    ensures { Means (views S.Source K.Sink)
-        (stripe_plan command geometry.now) (Over (status_of result))
+    ensures { Executes (views S.Source K.Sink)
+        (stripe_program command geometry.now) (Over (status_of result))
         (outside input.old output.old steps.old) (outside input.new output.new steps.new) }
 {
     match command {

@@ -1,12 +1,12 @@
 // What each line of a script does.
 ghost use Rattle.std.specs.Prelude.{◌≡◌, ℕ, Bool, false, IfErr, IfOk, OnOk};
-ghost use Rattle.stair_array.specs.Promise.{Opened as IsOpen};
+ghost use Rattle.stair_array.specs.Promise.{Opened};
 ghost use Rattle.stair_engine.specs.Scripts.{
   PutsReply,
   ReplyIsCut,
   admitted_reply as reply_of_admitted,
   does_line,
-  line_plan,
+  line_program,
   read_reply as reply_of_read,
   replies,
   scrubbed_reply as reply_of_scrubbed,
@@ -14,42 +14,42 @@ ghost use Rattle.stair_engine.specs.Scripts.{
   wrote_reply as reply_of_wrote,
 };
 ghost use Rattle.stair_script.specs.declared.line.Line.TheVariants.{Read, Replace, Scrub, Write};
-ghost use Rattle.stair_story.specs.Comes.{ComesTo};
-ghost use Rattle.stair_story.specs.Devices.{device_view, devices, some_left};
-ghost use Rattle.stair_story.specs.Fault.{status_of_fault};
-ghost use Rattle.stair_story.specs.Outside.{sink_view};
-ghost use Rattle.stair_story.specs.Plan.{Over, Plan, Put};
-ghost use Rattle.stair_story.specs.Rack.{rack_view};
+ghost use Rattle.stair_command.specs.Comes.{ExecutesOnDevices};
+ghost use Rattle.stair_command.specs.Devices.{device_view, devices, some_left};
+ghost use Rattle.stair_command.specs.Fault.{status_of_fault};
+ghost use Rattle.stair_command.specs.Outside.{sink_view};
+ghost use Rattle.stair_command.specs.Program.{Over, Program, Put};
+ghost use Rattle.stair_command.specs.Rack.{rack_view};
 ghost use Rattle.stair_watch.specs.WatcherList.{AllStay};
 
 use crate::rebuild::rebuilt_line;
 use stair_base::{SECTOR, StripeCode};
+use stair_command::{Fault, ObservedArray, put_all};
 use stair_mend::Progress;
 use stair_rack::{Rack, Sink, Watcher};
 use stair_script::{Line, read_line};
-use stair_story::{Fault, Opened, put_all};
 use stair_watch::Line as Reply;
 
 /// Does a line of a script, which has this number, and answers its reply, which a blank line has not.
 pub(crate) fn take_line<C: StripeCode, R: Rack>(
-    array: &mut Opened<C>,
+    array: &mut ObservedArray<C>,
     line: &[u8],
     number: u64,
     rack: &mut R,
     watchers: &mut Vec<Box<dyn Watcher>>,
 ) -> Result<Option<Reply>, Fault>
     requires stay { AllStay hears watchers.old.items }
-    ensures done { IfOk result (λ reply. (rest : Bool → Plan) → ComesTo
+    ensures done { IfOk result (λ reply. (rest : Bool → Program) → ExecutesOnDevices
         (device_view (rack_view R.Rack) hears)
         (does_line array.old.member.array.geometry number line.now rest)
         (replies reply (rest (some_left watchers.old.items watchers.new.items)))
-        (devices rack.old (IsOpen array.old) watchers.old.items)
-        (devices rack.new (IsOpen array.new) watchers.new.items)) }
-    ensures refused { IfErr result (λ fault. (rest : Bool → Plan) → ComesTo
+        (devices rack.old (Opened array.old) watchers.old.items)
+        (devices rack.new (Opened array.new) watchers.new.items)) }
+    ensures refused { IfErr result (λ fault. (rest : Bool → Program) → ExecutesOnDevices
         (device_view (rack_view R.Rack) hears)
         (does_line array.old.member.array.geometry number line.now rest) (Over (status_of_fault fault))
-        (devices rack.old (IsOpen array.old) watchers.old.items)
-        (devices rack.new (IsOpen array.new) watchers.new.items)) }
+        (devices rack.old (Opened array.old) watchers.old.items)
+        (devices rack.new (Opened array.new) watchers.new.items)) }
     ensures geometry { array.new.member.array.geometry ≡ array.old.member.array.geometry }
     ensures stay { AllStay hears watchers.new.items }
 {
@@ -74,23 +74,23 @@ pub(crate) fn put_reply<K: Sink>(output: &mut K, reply: &Option<Reply>) -> Resul
 
 // Does what a line says, and answers its reply, which a blank line has not.
 fn do_line<C: StripeCode, R: Rack>(
-    array: &mut Opened<C>,
+    array: &mut ObservedArray<C>,
     said: Line,
     rack: &mut R,
     watchers: &mut Vec<Box<dyn Watcher>>,
 ) -> Result<Option<Reply>, Fault>
     requires stay { AllStay hears watchers.old.items }
-    ensures done { IfOk result (λ reply. (rest : Bool → Plan) → ComesTo
+    ensures done { IfOk result (λ reply. (rest : Bool → Program) → ExecutesOnDevices
         (device_view (rack_view R.Rack) hears)
-        (line_plan array.old.member.array.geometry said rest)
+        (line_program array.old.member.array.geometry said rest)
         (replies reply (rest (some_left watchers.old.items watchers.new.items)))
-        (devices rack.old (IsOpen array.old) watchers.old.items)
-        (devices rack.new (IsOpen array.new) watchers.new.items)) }
-    ensures refused { IfErr result (λ fault. (rest : Bool → Plan) → ComesTo
+        (devices rack.old (Opened array.old) watchers.old.items)
+        (devices rack.new (Opened array.new) watchers.new.items)) }
+    ensures refused { IfErr result (λ fault. (rest : Bool → Program) → ExecutesOnDevices
         (device_view (rack_view R.Rack) hears)
-        (line_plan array.old.member.array.geometry said rest) (Over (status_of_fault fault))
-        (devices rack.old (IsOpen array.old) watchers.old.items)
-        (devices rack.new (IsOpen array.new) watchers.new.items)) }
+        (line_program array.old.member.array.geometry said rest) (Over (status_of_fault fault))
+        (devices rack.old (Opened array.old) watchers.old.items)
+        (devices rack.new (Opened array.new) watchers.new.items)) }
     ensures geometry { array.new.member.array.geometry ≡ array.old.member.array.geometry }
     ensures stay { AllStay hears watchers.new.items }
 {
@@ -115,23 +115,23 @@ fn do_line<C: StripeCode, R: Rack>(
 
 // Reads a block, and answers the reply with its digits.
 fn read_block<C: StripeCode, R: Rack>(
-    array: &mut Opened<C>,
+    array: &mut ObservedArray<C>,
     block: u64,
     rack: &mut R,
     watchers: &mut Vec<Box<dyn Watcher>>,
 ) -> Result<Reply, Fault>
     requires stay { AllStay hears watchers.old.items }
-    ensures done { IfOk result (λ reply. (rest : Bool → Plan) → ComesTo
+    ensures done { IfOk result (λ reply. (rest : Bool → Program) → ExecutesOnDevices
         (device_view (rack_view R.Rack) hears)
-        (line_plan array.old.member.array.geometry (Read block) rest)
+        (line_program array.old.member.array.geometry (Read block) rest)
         (Put reply (rest (some_left watchers.old.items watchers.new.items)))
-        (devices rack.old (IsOpen array.old) watchers.old.items)
-        (devices rack.new (IsOpen array.new) watchers.new.items)) }
-    ensures refused { IfErr result (λ fault. (rest : Bool → Plan) → ComesTo
+        (devices rack.old (Opened array.old) watchers.old.items)
+        (devices rack.new (Opened array.new) watchers.new.items)) }
+    ensures refused { IfErr result (λ fault. (rest : Bool → Program) → ExecutesOnDevices
         (device_view (rack_view R.Rack) hears)
-        (line_plan array.old.member.array.geometry (Read block) rest) (Over (status_of_fault fault))
-        (devices rack.old (IsOpen array.old) watchers.old.items)
-        (devices rack.new (IsOpen array.new) watchers.new.items)) }
+        (line_program array.old.member.array.geometry (Read block) rest) (Over (status_of_fault fault))
+        (devices rack.old (Opened array.old) watchers.old.items)
+        (devices rack.new (Opened array.new) watchers.new.items)) }
     ensures geometry { array.new.member.array.geometry ≡ array.old.member.array.geometry }
     ensures stay { AllStay hears watchers.new.items }
 {
@@ -145,25 +145,25 @@ fn read_block<C: StripeCode, R: Rack>(
 
 // Writes a block.
 fn write_block<C: StripeCode, R: Rack>(
-    array: &mut Opened<C>,
+    array: &mut ObservedArray<C>,
     block: u64,
     contents: &[u8; SECTOR],
     rack: &mut R,
     watchers: &mut Vec<Box<dyn Watcher>>,
 ) -> Result<(), Fault>
     requires stay { AllStay hears watchers.old.items }
-    ensures done { OnOk result ((rest : Bool → Plan) → ComesTo
+    ensures done { OnOk result ((rest : Bool → Program) → ExecutesOnDevices
         (device_view (rack_view R.Rack) hears)
-        (line_plan array.old.member.array.geometry (Write block contents.now) rest)
+        (line_program array.old.member.array.geometry (Write block contents.now) rest)
         (Put (reply_of_wrote block) (rest (some_left watchers.old.items watchers.new.items)))
-        (devices rack.old (IsOpen array.old) watchers.old.items)
-        (devices rack.new (IsOpen array.new) watchers.new.items)) }
-    ensures refused { IfErr result (λ fault. (rest : Bool → Plan) → ComesTo
+        (devices rack.old (Opened array.old) watchers.old.items)
+        (devices rack.new (Opened array.new) watchers.new.items)) }
+    ensures refused { IfErr result (λ fault. (rest : Bool → Program) → ExecutesOnDevices
         (device_view (rack_view R.Rack) hears)
-        (line_plan array.old.member.array.geometry (Write block contents.now) rest)
+        (line_program array.old.member.array.geometry (Write block contents.now) rest)
         (Over (status_of_fault fault))
-        (devices rack.old (IsOpen array.old) watchers.old.items)
-        (devices rack.new (IsOpen array.new) watchers.new.items)) }
+        (devices rack.old (Opened array.old) watchers.old.items)
+        (devices rack.new (Opened array.new) watchers.new.items)) }
     ensures geometry { array.new.member.array.geometry ≡ array.old.member.array.geometry }
     ensures stay { AllStay hears watchers.new.items }
 {
@@ -176,23 +176,23 @@ fn write_block<C: StripeCode, R: Rack>(
 
 // Scrubs a stripe, and answers the reply with the number of its cells that were written anew.
 fn scrub_stripe<C: StripeCode, R: Rack>(
-    array: &mut Opened<C>,
+    array: &mut ObservedArray<C>,
     stripe: u64,
     rack: &mut R,
     watchers: &mut Vec<Box<dyn Watcher>>,
 ) -> Result<Reply, Fault>
     requires stay { AllStay hears watchers.old.items }
-    ensures done { IfOk result (λ reply. (rest : Bool → Plan) → ComesTo
+    ensures done { IfOk result (λ reply. (rest : Bool → Program) → ExecutesOnDevices
         (device_view (rack_view R.Rack) hears)
-        (line_plan array.old.member.array.geometry (Scrub stripe) rest)
+        (line_program array.old.member.array.geometry (Scrub stripe) rest)
         (Put reply (rest (some_left watchers.old.items watchers.new.items)))
-        (devices rack.old (IsOpen array.old) watchers.old.items)
-        (devices rack.new (IsOpen array.new) watchers.new.items)) }
-    ensures refused { IfErr result (λ fault. (rest : Bool → Plan) → ComesTo
+        (devices rack.old (Opened array.old) watchers.old.items)
+        (devices rack.new (Opened array.new) watchers.new.items)) }
+    ensures refused { IfErr result (λ fault. (rest : Bool → Program) → ExecutesOnDevices
         (device_view (rack_view R.Rack) hears)
-        (line_plan array.old.member.array.geometry (Scrub stripe) rest) (Over (status_of_fault fault))
-        (devices rack.old (IsOpen array.old) watchers.old.items)
-        (devices rack.new (IsOpen array.new) watchers.new.items)) }
+        (line_program array.old.member.array.geometry (Scrub stripe) rest) (Over (status_of_fault fault))
+        (devices rack.old (Opened array.old) watchers.old.items)
+        (devices rack.new (Opened array.new) watchers.new.items)) }
     ensures geometry { array.new.member.array.geometry ≡ array.old.member.array.geometry }
     ensures stay { AllStay hears watchers.new.items }
 {
@@ -218,23 +218,23 @@ fn scrub_stripe<C: StripeCode, R: Rack>(
 
 // Puts the device in this slot in the place of the one that is down, without a rebuild.
 fn admit<C: StripeCode, R: Rack>(
-    array: &mut Opened<C>,
+    array: &mut ObservedArray<C>,
     slot: u64,
     rack: &mut R,
     watchers: &mut Vec<Box<dyn Watcher>>,
 ) -> Result<(), Fault>
     requires stay { AllStay hears watchers.old.items }
-    ensures done { OnOk result ((rest : Bool → Plan) → ComesTo
+    ensures done { OnOk result ((rest : Bool → Program) → ExecutesOnDevices
         (device_view (rack_view R.Rack) hears)
-        (line_plan array.old.member.array.geometry (Replace slot) rest)
+        (line_program array.old.member.array.geometry (Replace slot) rest)
         (Put (reply_of_admitted slot) (rest (some_left watchers.old.items watchers.new.items)))
-        (devices rack.old (IsOpen array.old) watchers.old.items)
-        (devices rack.new (IsOpen array.new) watchers.new.items)) }
-    ensures refused { IfErr result (λ fault. (rest : Bool → Plan) → ComesTo
+        (devices rack.old (Opened array.old) watchers.old.items)
+        (devices rack.new (Opened array.new) watchers.new.items)) }
+    ensures refused { IfErr result (λ fault. (rest : Bool → Program) → ExecutesOnDevices
         (device_view (rack_view R.Rack) hears)
-        (line_plan array.old.member.array.geometry (Replace slot) rest) (Over (status_of_fault fault))
-        (devices rack.old (IsOpen array.old) watchers.old.items)
-        (devices rack.new (IsOpen array.new) watchers.new.items)) }
+        (line_program array.old.member.array.geometry (Replace slot) rest) (Over (status_of_fault fault))
+        (devices rack.old (Opened array.old) watchers.old.items)
+        (devices rack.new (Opened array.new) watchers.new.items)) }
     ensures geometry { array.new.member.array.geometry ≡ array.old.member.array.geometry }
     ensures stay { AllStay hears watchers.new.items }
 {
@@ -251,23 +251,23 @@ fn admit<C: StripeCode, R: Rack>(
 
 // Makes at most so many steps of a rebuild, up to the first that finds nothing, and answers how many there were before that.
 fn rebuild_some<C: StripeCode, R: Rack>(
-    array: &mut Opened<C>,
+    array: &mut ObservedArray<C>,
     steps: u64,
     rack: &mut R,
     watchers: &mut Vec<Box<dyn Watcher>>,
 ) -> Result<u64, Fault>
     requires stay { AllStay hears watchers.old.items }
-    ensures done { IfOk result (λ done. (k : ℕ → Bool → Plan) → ComesTo
+    ensures done { IfOk result (λ done. (k : ℕ → Bool → Program) → ExecutesOnDevices
         (device_view (rack_view R.Rack) hears)
         (some_rebuilds array.old.member.array.geometry.n steps 0 false k)
         (k done (some_left watchers.old.items watchers.new.items))
-        (devices rack.old (IsOpen array.old) watchers.old.items)
-        (devices rack.new (IsOpen array.new) watchers.new.items)) }
-    ensures refused { IfErr result (λ fault. (k : ℕ → Bool → Plan) → ComesTo
+        (devices rack.old (Opened array.old) watchers.old.items)
+        (devices rack.new (Opened array.new) watchers.new.items)) }
+    ensures refused { IfErr result (λ fault. (k : ℕ → Bool → Program) → ExecutesOnDevices
         (device_view (rack_view R.Rack) hears)
         (some_rebuilds array.old.member.array.geometry.n steps 0 false k) (Over (status_of_fault fault))
-        (devices rack.old (IsOpen array.old) watchers.old.items)
-        (devices rack.new (IsOpen array.new) watchers.new.items)) }
+        (devices rack.old (Opened array.old) watchers.old.items)
+        (devices rack.new (Opened array.new) watchers.new.items)) }
     ensures geometry { array.new.member.array.geometry ≡ array.old.member.array.geometry }
     ensures stay { AllStay hears watchers.new.items }
 {

@@ -1,13 +1,13 @@
 ghost use Rattle.std.specs.Prelude.{◌≡◌, ◌≢◌, ℕ, ◌+◌, ◌≤◌, ◌<◌, ◌⊎◌, ◌↔◌, IfOk, IfErr, length, slice_index};
 ghost use Rattle.stair_model.specs.CellSet.{HasCell};
-ghost use Rattle.stair_story.specs.Answer.{map_bytes};
-ghost use Rattle.stair_story.specs.Outside.{source_view};
-ghost use Rattle.stair_story.specs.Taking.{CutsShort};
+ghost use Rattle.stair_command.specs.Answer.{map_bytes};
+ghost use Rattle.stair_command.specs.Outside.{source_view};
+ghost use Rattle.stair_command.specs.Taking.{CutsShort};
 ghost use Rattle.stair_engine.specs.Taking.{TakesMap};
 
 use stair_base::{CellSet, Geometry};
+use stair_command::{Fault, Intake};
 use stair_rack::Source;
-use stair_story::{Fault, Intake};
 
 /// The byte of a cell that is held; every other byte is that of one that is erased.
 const HELD: u8 = b'.';

@@ -1,18 +1,18 @@
 ghost use Rattle.std.specs.Prelude.{◌≡◌, ◌+◌, ◌*◌, ◌^◌, ◌<◌, true, IfErr, IfOk, Ok, OnOk};
 ghost use Rattle.stair_array.specs.Machine.{Recover};
-ghost use Rattle.stair_array.specs.Promise.{Found, Opened as IsOpen};
+ghost use Rattle.stair_array.specs.Promise.{Found, Opened};
 ghost use Rattle.stair_engine.specs.Blocks.{BeginsSession, EndsSession, IsPast, IsUnopened, is_in_range};
 ghost use Rattle.stair_model.specs.Stripe.{SECTOR as BYTES};
-ghost use Rattle.stair_story.specs.Devices.{device_view, devices};
-ghost use Rattle.stair_story.specs.Rack.{rack_view};
-ghost use Rattle.stair_story.specs.Steps.{Takes};
+ghost use Rattle.stair_command.specs.Devices.{device_view, devices};
+ghost use Rattle.stair_command.specs.Rack.{rack_view};
+ghost use Rattle.stair_command.specs.Steps.{Takes};
 ghost use Rattle.stair_watch.specs.WatcherList.{AllStay};
 
 use stair_base::Geometry;
 use stair_codec::{By, Codec};
+use stair_command::{Fault, ObservedArray};
 use stair_member::{Member, survey};
 use stair_rack::{Rack, Watcher};
-use stair_story::{Fault, Opened};
 use std::alloc::Global;
 
 /// Looks for the array of the rack, and opens it.
@@ -20,7 +20,7 @@ pub(crate) fn session<R: Rack>(
     alloc: Global,
     rack: &mut R,
     watchers: &mut Vec<Box<dyn Watcher>>,
-) -> Result<Opened<Codec>, Fault>
+) -> Result<ObservedArray<Codec>, Fault>
     requires stay { AllStay hears watchers.old.items }
     ensures begins { IfOk result (λ array. BeginsSession
         (device_view (rack_view R.Rack) hears)
@@ -40,20 +40,20 @@ pub(crate) fn open<R: Rack>(
     rack: &mut R,
     member: Member,
     watchers: &mut Vec<Box<dyn Watcher>>,
-) -> Result<Opened<Codec>, Fault>
+) -> Result<ObservedArray<Codec>, Fault>
     requires stay { AllStay hears watchers.old.items }
     ensures taken { IfOk result (λ array. Takes
         (device_view (rack_view R.Rack) hears)
         Recover (Ok member.array.geometry)
         (devices rack.old (Found member) watchers.old.items)
-        (devices rack.new (IsOpen array) watchers.new.items)) }
+        (devices rack.new (Opened array) watchers.new.items)) }
     ensures refused { IfErr result (λ fault. IsUnopened
         (device_view (rack_view R.Rack) hears)
         member fault rack.old rack.new watchers.old.items watchers.new.items) }
     ensures stay { AllStay hears watchers.new.items }
 {
     let code = Codec::new(alloc, &member.geometry(), By::Fewest)?;
-    Ok(Opened::open(alloc, rack, member, code, watchers)?)
+    Ok(ObservedArray::open(alloc, rack, member, code, watchers)?)
 }
 
 /// Whether an array of this geometry has so many blocks from this one on.

@@ -1,21 +1,21 @@
 ghost use Rattle.std.specs.Prelude.{◌≡◌, ℕ, IfErr, IfOk};
 ghost use Rattle.stair_model.specs.Geometry.{Geometry};
-ghost use Rattle.stair_array.specs.Promise.{Opened as IsOpen};
-ghost use Rattle.stair_engine.specs.Mending.{rebuild_plan, rebuilt_line as line_of_rebuilt};
-ghost use Rattle.stair_story.specs.Comes.{ComesTo};
-ghost use Rattle.stair_story.specs.Devices.{MeansWhole, device_view, devices};
-ghost use Rattle.stair_story.specs.Fault.{status_of, status_of_fault};
-ghost use Rattle.stair_story.specs.Outside.{outside, sink_alone};
-ghost use Rattle.stair_story.specs.Plan.{Over, Plan, RebuildAll};
-ghost use Rattle.stair_story.specs.Rack.{rack_view};
+ghost use Rattle.stair_array.specs.Promise.{Opened};
+ghost use Rattle.stair_engine.specs.Mending.{rebuild_program, rebuilt_line as line_of_rebuilt};
+ghost use Rattle.stair_command.specs.Comes.{ExecutesOnDevices};
+ghost use Rattle.stair_command.specs.Devices.{ExecutesWhole, device_view, devices};
+ghost use Rattle.stair_command.specs.Fault.{status_of, status_of_fault};
+ghost use Rattle.stair_command.specs.Outside.{outside, sink_alone};
+ghost use Rattle.stair_command.specs.Program.{Over, Program, RebuildAll};
+ghost use Rattle.stair_command.specs.Rack.{rack_view};
 ghost use Rattle.stair_watch.specs.WatcherList.{AllStay};
 
 use crate::line::put_line;
 use crate::open::session;
 use stair_base::StripeCode;
+use stair_command::{Fault, ObservedArray, Status};
 use stair_mend::Progress;
 use stair_rack::{Rack, Sink, Watcher};
-use stair_story::{Fault, Opened, Status};
 use stair_watch::Line;
 use std::alloc::Global;
 
@@ -27,10 +27,10 @@ pub(crate) fn rebuild<R: Rack, K: Sink>(
     watchers: &mut Vec<Box<dyn Watcher>>,
 ) -> Result<Status, Fault>
     requires stay { AllStay hears watchers.old.items }
-    ensures means { (counter : ℕ) → MeansWhole
+    ensures means { (counter : ℕ) → ExecutesWhole
         (device_view (rack_view R.Rack) hears)
         (sink_alone K.Sink)
-        rebuild_plan (Over (status_of result))
+        rebuild_program (Over (status_of result))
         (outside tt output.old counter) (outside tt output.new counter)
         rack.old rack.new watchers.old.items watchers.new.items }
     ensures stay { AllStay hears watchers.new.items }
@@ -42,21 +42,21 @@ pub(crate) fn rebuild<R: Rack, K: Sink>(
 
 /// Makes steps of a rebuild until there is nothing to rebuild, and answers how many there were.
 pub(crate) fn rebuild_all<C: StripeCode, R: Rack>(
-    array: &mut Opened<C>,
+    array: &mut ObservedArray<C>,
     rack: &mut R,
     watchers: &mut Vec<Box<dyn Watcher>>,
 ) -> Result<u64, Fault>
     requires stay { AllStay hears watchers.old.items }
-    ensures done { IfOk result (λ steps. (k : ℕ → Plan) → ComesTo
+    ensures done { IfOk result (λ steps. (k : ℕ → Program) → ExecutesOnDevices
         (device_view (rack_view R.Rack) hears)
         (RebuildAll array.old.member.array.geometry.n 0 k) (k steps)
-        (devices rack.old (IsOpen array.old) watchers.old.items)
-        (devices rack.new (IsOpen array.new) watchers.new.items)) }
-    ensures refused { IfErr result (λ fault. (k : ℕ → Plan) → ComesTo
+        (devices rack.old (Opened array.old) watchers.old.items)
+        (devices rack.new (Opened array.new) watchers.new.items)) }
+    ensures refused { IfErr result (λ fault. (k : ℕ → Program) → ExecutesOnDevices
         (device_view (rack_view R.Rack) hears)
         (RebuildAll array.old.member.array.geometry.n 0 k) (Over (status_of_fault fault))
-        (devices rack.old (IsOpen array.old) watchers.old.items)
-        (devices rack.new (IsOpen array.new) watchers.new.items)) }
+        (devices rack.old (Opened array.old) watchers.old.items)
+        (devices rack.new (Opened array.new) watchers.new.items)) }
     ensures geometry { array.new.member.array.geometry ≡ array.old.member.array.geometry }
     ensures stay { AllStay hears watchers.new.items }
 {

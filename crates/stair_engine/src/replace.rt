@@ -1,20 +1,20 @@
 ghost use Rattle.std.specs.Prelude.{◌≡◌, ◌<◌, ℕ, IfErr, IfOk};
-ghost use Rattle.stair_array.specs.Promise.{Opened as IsOpen};
-ghost use Rattle.stair_engine.specs.Mending.{replace_plan, replaced, replaced_line as line_of_replaced, replaces};
-ghost use Rattle.stair_story.specs.Comes.{ComesTo};
-ghost use Rattle.stair_story.specs.Devices.{MeansWhole, device_view, devices};
-ghost use Rattle.stair_story.specs.Fault.{status_of, status_of_fault};
-ghost use Rattle.stair_story.specs.Outside.{outside, sink_alone};
-ghost use Rattle.stair_story.specs.Plan.{Over};
-ghost use Rattle.stair_story.specs.Rack.{rack_view};
+ghost use Rattle.stair_array.specs.Promise.{Opened};
+ghost use Rattle.stair_engine.specs.Mending.{replace_program, replaced, replaced_line as line_of_replaced, replaces};
+ghost use Rattle.stair_command.specs.Comes.{ExecutesOnDevices};
+ghost use Rattle.stair_command.specs.Devices.{ExecutesWhole, device_view, devices};
+ghost use Rattle.stair_command.specs.Fault.{status_of, status_of_fault};
+ghost use Rattle.stair_command.specs.Outside.{outside, sink_alone};
+ghost use Rattle.stair_command.specs.Program.{Over};
+ghost use Rattle.stair_command.specs.Rack.{rack_view};
 ghost use Rattle.stair_watch.specs.WatcherList.{AllStay};
 
 use crate::line::put_line;
 use crate::open::session;
 use crate::rebuild::rebuild_all;
 use stair_base::StripeCode;
+use stair_command::{Fault, ObservedArray, Status};
 use stair_rack::{Rack, Sink, Watcher};
-use stair_story::{Fault, Opened, Status};
 use stair_super::Mark;
 use stair_watch::Line;
 use std::alloc::Global;
@@ -28,10 +28,10 @@ pub(crate) fn replace<R: Rack, K: Sink>(
     watchers: &mut Vec<Box<dyn Watcher>>,
 ) -> Result<Status, Fault>
     requires stay { AllStay hears watchers.old.items }
-    ensures means { (counter : ℕ) → MeansWhole
+    ensures means { (counter : ℕ) → ExecutesWhole
         (device_view (rack_view R.Rack) hears)
         (sink_alone K.Sink)
-        (replace_plan slot) (Over (status_of result))
+        (replace_program slot) (Over (status_of result))
         (outside tt output.old counter) (outside tt output.new counter)
         rack.old rack.new watchers.old.items watchers.new.items }
     ensures stay { AllStay hears watchers.new.items }
@@ -50,7 +50,7 @@ pub(crate) fn replace<R: Rack, K: Sink>(
 
 // Admits the device in this slot, which the array has, and rebuilds it.
 fn replace_slot<C: StripeCode, R: Rack>(
-    array: &mut Opened<C>,
+    array: &mut ObservedArray<C>,
     slot: u8,
     rack: &mut R,
     watchers: &mut Vec<Box<dyn Watcher>>,
@@ -58,16 +58,16 @@ fn replace_slot<C: StripeCode, R: Rack>(
     requires has { slot < array.old.member.array.geometry.n }
     requires few { slot < 32 }
     requires stay { AllStay hears watchers.old.items }
-    ensures done { IfOk result (λ live. ComesTo
+    ensures done { IfOk result (λ live. ExecutesOnDevices
         (device_view (rack_view R.Rack) hears)
         (replaces array.old.member.array.geometry slot) (replaced slot)
-        (devices rack.old (IsOpen array.old) watchers.old.items)
-        (devices rack.new (IsOpen array.new) watchers.new.items)) }
-    ensures refused { IfErr result (λ fault. ComesTo
+        (devices rack.old (Opened array.old) watchers.old.items)
+        (devices rack.new (Opened array.new) watchers.new.items)) }
+    ensures refused { IfErr result (λ fault. ExecutesOnDevices
         (device_view (rack_view R.Rack) hears)
         (replaces array.old.member.array.geometry slot) (Over (status_of_fault fault))
-        (devices rack.old (IsOpen array.old) watchers.old.items)
-        (devices rack.new (IsOpen array.new) watchers.new.items)) }
+        (devices rack.old (Opened array.old) watchers.old.items)
+        (devices rack.new (Opened array.new) watchers.new.items)) }
     ensures stay { AllStay hears watchers.new.items }
 {
     let slots = array.geometry().n();

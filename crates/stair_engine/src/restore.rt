@@ -1,13 +1,13 @@
 ghost use Rattle.std.specs.Prelude.{ℕ};
 ghost use Rattle.stair_model.specs.Geometry.{IsWithinLimits};
 ghost use Rattle.stair_model.specs.Stripe.{IsStripeOf, IsWellFormed};
-ghost use Rattle.stair_story.specs.Answer.{bytes_needed};
-ghost use Rattle.stair_story.specs.Fault.{status_of};
-ghost use Rattle.stair_story.specs.Means.{Means};
-ghost use Rattle.stair_story.specs.Outside.{outside, source_view, views};
-ghost use Rattle.stair_story.specs.Plan.{Over};
-ghost use Rattle.stair_engine.specs.Plans.{input_plan, stripe_plan};
-ghost use Rattle.stair_story.specs.Taking.{TakesWhole};
+ghost use Rattle.stair_command.specs.Answer.{bytes_needed};
+ghost use Rattle.stair_command.specs.Fault.{status_of};
+ghost use Rattle.stair_command.specs.Executes.{Executes};
+ghost use Rattle.stair_command.specs.Outside.{outside, source_view, views};
+ghost use Rattle.stair_command.specs.Program.{Over};
+ghost use Rattle.stair_engine.specs.Programs.{input_program, stripe_program};
+ghost use Rattle.stair_command.specs.Taking.{TakesWhole};
 ghost use Rattle.stair_engine.specs.Taking.{IsMapAndCells};
 ghost use Rattle.stair_conf.specs.declared.job.StripeCommand.TheVariants.{Restore};
 
@@ -15,8 +15,8 @@ use crate::cells::{cell_bytes, put_stripe, take_stripe};
 use crate::map::take_map;
 use stair_base::{CellSet, Geometry, Stripe, StripeCode, first_broken};
 use stair_codec::{By, Codec};
+use stair_command::{Fault, Intake, Status};
 use stair_rack::{Sink, Source};
-use stair_story::{Fault, Intake, Status};
 use std::alloc::Global;
 
 /// Takes a map and the cells of a stripe row by row, and puts out the codeword that has those cells of it that are held.
@@ -26,8 +26,8 @@ pub(crate) fn restore<S: Source, K: Sink>(
     input: &mut S,
     output: &mut K,
 ) -> Result<Status, Fault>
-    ensures { (counter : ℕ) → Means (views S.Source K.Sink)
-        (stripe_plan Restore geometry.now) (Over (status_of result))
+    ensures { (counter : ℕ) → Executes (views S.Source K.Sink)
+        (stripe_program Restore geometry.now) (Over (status_of result))
         (outside input.old output.old counter) (outside input.new output.new counter) }
 {
     let mut stripe = Stripe::new(alloc, geometry)?;
@@ -45,8 +45,8 @@ fn restore_by<C: StripeCode, S: Source, K: Sink>(
 ) -> Result<Status, Fault>
     requires of { IsStripeOf (C.shape code.old) stripe.old }
     requires well_formed { IsWellFormed stripe.old }
-    ensures { (counter : ℕ) → Means (views S.Source K.Sink)
-        (input_plan Restore (C.shape code.old)) (Over (status_of result))
+    ensures { (counter : ℕ) → Executes (views S.Source K.Sink)
+        (input_program Restore (C.shape code.old)) (Over (status_of result))
         (outside input.old output.old counter) (outside input.new output.new counter) }
 {
     let geometry = code.geometry();

@@ -1,20 +1,20 @@
 ghost use Rattle.std.specs.Prelude.{◌≡◌, ◌<◌, ◌≤◌, ℕ, false, true, IfErr, IfOk};
-ghost use Rattle.stair_array.specs.Promise.{Opened as IsOpen};
-ghost use Rattle.stair_engine.specs.Scripts.{all_lines, last_line, script_plan};
-ghost use Rattle.stair_story.specs.Devices.{MeansWhole, MeansWith, device_view, devices};
-ghost use Rattle.stair_story.specs.Fault.{status_of};
-ghost use Rattle.stair_story.specs.Outside.{outside, sink_alone, source_view, views};
-ghost use Rattle.stair_story.specs.Plan.{Over};
-ghost use Rattle.stair_story.specs.Rack.{rack_view};
-ghost use Rattle.stair_story.specs.Texts.{FailsByte, TakesByte};
+ghost use Rattle.stair_array.specs.Promise.{Opened};
+ghost use Rattle.stair_engine.specs.Scripts.{all_lines, last_line, script_program};
+ghost use Rattle.stair_command.specs.Devices.{ExecutesWhole, ExecutesWith, device_view, devices};
+ghost use Rattle.stair_command.specs.Fault.{status_of};
+ghost use Rattle.stair_command.specs.Outside.{outside, sink_alone, source_view, views};
+ghost use Rattle.stair_command.specs.Program.{Over};
+ghost use Rattle.stair_command.specs.Rack.{rack_view};
+ghost use Rattle.stair_command.specs.Texts.{FailsByte, TakesByte};
 ghost use Rattle.stair_watch.specs.WatcherList.{AllStay};
 
 use crate::lines::{put_reply, take_line};
 use crate::open::session;
 use stair_base::StripeCode;
+use stair_command::{Fault, Filled, ObservedArray, Status, take_at_least};
 use stair_rack::{Rack, Sink, Source, Watcher};
-use stair_script::{LINE_LIMIT, SCRIPT_LIMIT};
-use stair_story::{Fault, Filled, Opened, Status, take_at_least};
+use stair_script::{MAX_SCRIPT_LINE, SCRIPT_LIMIT};
 use stair_watch::Line;
 use std::alloc::Global;
 
@@ -31,9 +31,9 @@ pub(crate) fn run_script<R: Rack, S: Source, K: Sink>(
     watchers: &mut Vec<Box<dyn Watcher>>,
 ) -> Result<Status, Fault>
     requires stay { AllStay hears watchers.old.items }
-    ensures means { (counter : ℕ) → MeansWhole
+    ensures means { (counter : ℕ) → ExecutesWhole
         (device_view (rack_view R.Rack) hears) (views S.Source K.Sink)
-        (script_plan guarded) (Over (status_of result))
+        (script_program guarded) (Over (status_of result))
         (outside input.old output.old counter) (outside input.new output.new counter)
         rack.old rack.new watchers.old.items watchers.new.items }
     ensures stay { AllStay hears watchers.new.items }
@@ -48,7 +48,7 @@ pub(crate) fn run_script<R: Rack, S: Source, K: Sink>(
 
 // Does each line once its end came.
 fn do_lines<C: StripeCode, R: Rack, S: Source, K: Sink>(
-    array: &mut Opened<C>,
+    array: &mut ObservedArray<C>,
     guarded: bool,
     rack: &mut R,
     input: &mut S,
@@ -56,12 +56,12 @@ fn do_lines<C: StripeCode, R: Rack, S: Source, K: Sink>(
     watchers: &mut Vec<Box<dyn Watcher>>,
 ) -> Result<Status, Fault>
     requires stay { AllStay hears watchers.old.items }
-    ensures means { (counter : ℕ) → MeansWith
+    ensures means { (counter : ℕ) → ExecutesWith
         (device_view (rack_view R.Rack) hears) (views S.Source K.Sink)
         (all_lines guarded array.old.member.array.geometry) (Over (status_of result))
         (outside input.old output.old counter) (outside input.new output.new counter)
-        (devices rack.old (IsOpen array.old) watchers.old.items)
-        (devices rack.new (IsOpen array.new) watchers.new.items) }
+        (devices rack.old (Opened array.old) watchers.old.items)
+        (devices rack.new (Opened array.new) watchers.new.items) }
     ensures stay { AllStay hears watchers.new.items }
 {
     let mut line = Line::new();
@@ -79,7 +79,7 @@ fn do_lines<C: StripeCode, R: Rack, S: Source, K: Sink>(
             }
             line.clear();
             number += 1;
-        } else if line.bytes().len() < LINE_LIMIT {
+        } else if line.bytes().len() < MAX_SCRIPT_LINE {
             line.push(&[byte]);
         } else {
             return Err(Fault::BadLine(number));
@@ -96,7 +96,7 @@ fn do_lines<C: StripeCode, R: Rack, S: Source, K: Sink>(
 
 // Does what stands after the last end of a line, which is no line where it is nothing.
 fn do_last<C: StripeCode, R: Rack, K: Sink>(
-    array: &mut Opened<C>,
+    array: &mut ObservedArray<C>,
     guarded: bool,
     line: &[u8],
     number: u64,
@@ -105,13 +105,13 @@ fn do_last<C: StripeCode, R: Rack, K: Sink>(
     watchers: &mut Vec<Box<dyn Watcher>>,
 ) -> Result<Status, Fault>
     requires stay { AllStay hears watchers.old.items }
-    ensures means { (counter : ℕ) → MeansWith
+    ensures means { (counter : ℕ) → ExecutesWith
         (device_view (rack_view R.Rack) hears)
         (sink_alone K.Sink)
         (last_line guarded array.old.member.array.geometry number line.now) (Over (status_of result))
         (outside tt output.old counter) (outside tt output.new counter)
-        (devices rack.old (IsOpen array.old) watchers.old.items)
-        (devices rack.new (IsOpen array.new) watchers.new.items) }
+        (devices rack.old (Opened array.old) watchers.old.items)
+        (devices rack.new (Opened array.new) watchers.new.items) }
     ensures stay { AllStay hears watchers.new.items }
 {
     if line.is_empty() {

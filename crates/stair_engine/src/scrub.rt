@@ -1,19 +1,19 @@
 ghost use Rattle.std.specs.Prelude.{◌≡◌, ℕ, IfErr, IfOk};
-ghost use Rattle.stair_array.specs.Promise.{Opened as IsOpen};
-ghost use Rattle.stair_engine.specs.Mending.{scrub_plan, scrubbed, scrubbed_line as line_of_scrubbed, scrubs};
-ghost use Rattle.stair_story.specs.Comes.{ComesTo};
-ghost use Rattle.stair_story.specs.Devices.{MeansWhole, device_view, devices};
-ghost use Rattle.stair_story.specs.Fault.{status_of, status_of_fault};
-ghost use Rattle.stair_story.specs.Outside.{outside, sink_alone};
-ghost use Rattle.stair_story.specs.Plan.{Over};
-ghost use Rattle.stair_story.specs.Rack.{rack_view};
+ghost use Rattle.stair_array.specs.Promise.{Opened};
+ghost use Rattle.stair_engine.specs.Mending.{scrub_program, scrubbed, scrubbed_line as line_of_scrubbed, scrubs};
+ghost use Rattle.stair_command.specs.Comes.{ExecutesOnDevices};
+ghost use Rattle.stair_command.specs.Devices.{ExecutesWhole, device_view, devices};
+ghost use Rattle.stair_command.specs.Fault.{status_of, status_of_fault};
+ghost use Rattle.stair_command.specs.Outside.{outside, sink_alone};
+ghost use Rattle.stair_command.specs.Program.{Over};
+ghost use Rattle.stair_command.specs.Rack.{rack_view};
 ghost use Rattle.stair_watch.specs.WatcherList.{AllStay};
 
 use crate::line::put_line;
 use crate::open::session;
 use stair_base::StripeCode;
+use stair_command::{Fault, ObservedArray, Status};
 use stair_rack::{Rack, Sink, Watcher};
-use stair_story::{Fault, Opened, Status};
 use stair_watch::Line;
 use std::alloc::Global;
 
@@ -25,10 +25,10 @@ pub(crate) fn scrub<R: Rack, K: Sink>(
     watchers: &mut Vec<Box<dyn Watcher>>,
 ) -> Result<Status, Fault>
     requires stay { AllStay hears watchers.old.items }
-    ensures means { (counter : ℕ) → MeansWhole
+    ensures means { (counter : ℕ) → ExecutesWhole
         (device_view (rack_view R.Rack) hears)
         (sink_alone K.Sink)
-        scrub_plan (Over (status_of result))
+        scrub_program (Over (status_of result))
         (outside tt output.old counter) (outside tt output.new counter)
         rack.old rack.new watchers.old.items watchers.new.items }
     ensures stay { AllStay hears watchers.new.items }
@@ -41,23 +41,23 @@ pub(crate) fn scrub<R: Rack, K: Sink>(
 
 // Scrubs all stripes, and answers how many cells were written anew.
 fn scrub_all<C: StripeCode, R: Rack>(
-    array: &mut Opened<C>,
+    array: &mut ObservedArray<C>,
     rack: &mut R,
     watchers: &mut Vec<Box<dyn Watcher>>,
 ) -> Result<u64, Fault>
     requires stay { AllStay hears watchers.old.items }
-    ensures done { IfOk result (λ cells. ComesTo
+    ensures done { IfOk result (λ cells. ExecutesOnDevices
         (device_view (rack_view R.Rack) hears)
         (scrubs array.old.member.array.geometry 0 array.old.member.array.geometry.stripes 0)
         (scrubbed array.old.member.array.geometry.stripes cells)
-        (devices rack.old (IsOpen array.old) watchers.old.items)
-        (devices rack.new (IsOpen array.new) watchers.new.items)) }
-    ensures refused { IfErr result (λ fault. ComesTo
+        (devices rack.old (Opened array.old) watchers.old.items)
+        (devices rack.new (Opened array.new) watchers.new.items)) }
+    ensures refused { IfErr result (λ fault. ExecutesOnDevices
         (device_view (rack_view R.Rack) hears)
         (scrubs array.old.member.array.geometry 0 array.old.member.array.geometry.stripes 0)
         (Over (status_of_fault fault))
-        (devices rack.old (IsOpen array.old) watchers.old.items)
-        (devices rack.new (IsOpen array.new) watchers.new.items)) }
+        (devices rack.old (Opened array.old) watchers.old.items)
+        (devices rack.new (Opened array.new) watchers.new.items)) }
     ensures stay { AllStay hears watchers.new.items }
 {
     let geometry = array.geometry();

@@ -1,6 +1,6 @@
 ghost use Rattle.std.specs.Prelude.{◌≡◌, ◌+◌, ◌<◌, ◌≤◌, ◌++◌, length, IfErr};
-ghost use Rattle.stair_story.specs.Outside.{sink_view};
-ghost use Rattle.stair_story.specs.Rack.{rack_view};
+ghost use Rattle.stair_command.specs.Outside.{sink_view};
+ghost use Rattle.stair_command.specs.Rack.{rack_view};
 ghost use Rattle.stair_engine.specs.Show.{
   array_line as line_of_array,
   array_text,
@@ -15,14 +15,14 @@ ghost use Rattle.stair_engine.specs.Show.{
   spaced,
 };
 ghost use Rattle.stair_engine.specs.ShowSteps.{Shows};
-ghost use Rattle.stair_story.specs.Streams.{PutsAll};
-ghost use Rattle.stair_watch.specs.declared.line.TheConstants.{LINE_LIMIT};
+ghost use Rattle.stair_command.specs.Streams.{PutsAll};
+ghost use Rattle.stair_watch.specs.declared.line.TheConstants.{MAX_OUTPUT_LINE};
 
 use stair_base::Geometry;
+use stair_command::{Fault, Status, put_all};
 use stair_member::{Member, Why, survey};
 use stair_rack::{Rack, Sink};
 use stair_status::identity_digits;
-use stair_story::{Fault, Status, put_all};
 use stair_super::{Label, Mark};
 use stair_watch::Line;
 
@@ -89,7 +89,7 @@ fn geometry_line(geometry: &Geometry) -> Line
 
 // The entries, of which there are at most 31.
 fn push_coverage(line: &mut Line, geometry: &Geometry)
-    requires { length line.old + 651 ≤ LINE_LIMIT }
+    requires { length line.old + 651 ≤ MAX_OUTPUT_LINE }
     ensures text { line.new ≡ line.old ++ spaced geometry.now.e }
     ensures short { length line.new ≤ length line.old + 651 }
 {
@@ -148,7 +148,7 @@ fn slot_line(member: &Member, slot: u8) -> Line
 }
 
 fn push_seat(line: &mut Line, mark: Mark, joined: u64)
-    requires { length line.old + 32 ≤ LINE_LIMIT }
+    requires { length line.old + 32 ≤ MAX_OUTPUT_LINE }
     ensures text { line.new ≡ line.old ++ seat_text mark joined }
     ensures short { length line.new ≤ length line.old + 32 }
 {
@@ -161,7 +161,7 @@ fn push_seat(line: &mut Line, mark: Mark, joined: u64)
 
 // The reason, where it isn't the one that the mark tells.
 fn push_reason(line: &mut Line, mark: Mark, why: Why)
-    requires { length line.old + 14 ≤ LINE_LIMIT }
+    requires { length line.old + 14 ≤ MAX_OUTPUT_LINE }
     ensures text { line.new ≡ line.old ++ reason_text mark why }
     ensures short { length line.new ≤ length line.old + 14 }
 {

@@ -1,16 +1,16 @@
 ghost use Rattle.std.specs.Prelude.{ℕ};
-ghost use Rattle.stair_engine.specs.Mending.{freeze_plan, label_plan, thaw_plan};
-ghost use Rattle.stair_story.specs.Devices.{MeansWhole, device_view};
-ghost use Rattle.stair_story.specs.Fault.{status_of};
-ghost use Rattle.stair_story.specs.Outside.{outside, sink_alone};
-ghost use Rattle.stair_story.specs.Plan.{Over};
-ghost use Rattle.stair_story.specs.Rack.{rack_view};
+ghost use Rattle.stair_engine.specs.Mending.{freeze_program, label_program, thaw_program};
+ghost use Rattle.stair_command.specs.Devices.{ExecutesWhole, device_view};
+ghost use Rattle.stair_command.specs.Fault.{status_of};
+ghost use Rattle.stair_command.specs.Outside.{outside, sink_alone};
+ghost use Rattle.stair_command.specs.Program.{Over};
+ghost use Rattle.stair_command.specs.Rack.{rack_view};
 ghost use Rattle.stair_watch.specs.WatcherList.{AllStay};
 
 use crate::line::put_line;
 use crate::open::session;
+use stair_command::{Fault, Status};
 use stair_rack::{Rack, Sink, Watcher};
-use stair_story::{Fault, Status};
 use stair_super::Label;
 use std::alloc::Global;
 
@@ -22,10 +22,10 @@ pub(crate) fn freeze<R: Rack, K: Sink>(
     watchers: &mut Vec<Box<dyn Watcher>>,
 ) -> Result<Status, Fault>
     requires stay { AllStay hears watchers.old.items }
-    ensures means { (counter : ℕ) → MeansWhole
+    ensures means { (counter : ℕ) → ExecutesWhole
         (device_view (rack_view R.Rack) hears)
         (sink_alone K.Sink)
-        freeze_plan (Over (status_of result))
+        freeze_program (Over (status_of result))
         (outside tt output.old counter) (outside tt output.new counter)
         rack.old rack.new watchers.old.items watchers.new.items }
     ensures stay { AllStay hears watchers.new.items }
@@ -46,10 +46,10 @@ pub(crate) fn thaw<R: Rack, K: Sink>(
     watchers: &mut Vec<Box<dyn Watcher>>,
 ) -> Result<Status, Fault>
     requires stay { AllStay hears watchers.old.items }
-    ensures means { (counter : ℕ) → MeansWhole
+    ensures means { (counter : ℕ) → ExecutesWhole
         (device_view (rack_view R.Rack) hears)
         (sink_alone K.Sink)
-        thaw_plan (Over (status_of result))
+        thaw_program (Over (status_of result))
         (outside tt output.old counter) (outside tt output.new counter)
         rack.old rack.new watchers.old.items watchers.new.items }
     ensures stay { AllStay hears watchers.new.items }
@@ -71,10 +71,10 @@ pub(crate) fn label<R: Rack, K: Sink>(
     watchers: &mut Vec<Box<dyn Watcher>>,
 ) -> Result<Status, Fault>
     requires stay { AllStay hears watchers.old.items }
-    ensures means { (counter : ℕ) → MeansWhole
+    ensures means { (counter : ℕ) → ExecutesWhole
         (device_view (rack_view R.Rack) hears)
         (sink_alone K.Sink)
-        (label_plan text) (Over (status_of result))
+        (label_program text) (Over (status_of result))
         (outside tt output.old counter) (outside tt output.new counter)
         rack.old rack.new watchers.old.items watchers.new.items }
     ensures stay { AllStay hears watchers.new.items }

@@ -1,7 +1,7 @@
 ghost use Rattle.std.specs.Prelude.{◌≡◌, IfOk, IfErr, OnOk};
 ghost use Rattle.stair_model.specs.Geometry.{IsFirstBrokenLimit, IsWithinLimits};
 ghost use Rattle.stair_engine.specs.Task.{one_stripe as stripe_of};
-ghost use Rattle.stair_story.specs.Encode.{by_of as by_of_method};
+ghost use Rattle.stair_command.specs.Encode.{by_of as by_of_method};
 
 use stair_base::{Geometry, GeometryFault};
 use stair_codec::By;

@@ -1,19 +1,19 @@
 ghost use Rattle.std.specs.Prelude.{◌≡◌, ℕ};
-ghost use Rattle.stair_engine.specs.Volumes.{volumes_plan};
-ghost use Rattle.stair_story.specs.Devices.{MeansWhole, device_view};
-ghost use Rattle.stair_story.specs.Fault.{status_of};
-ghost use Rattle.stair_story.specs.Outside.{outside, views};
-ghost use Rattle.stair_story.specs.Plan.{Over};
-ghost use Rattle.stair_story.specs.Rack.{rack_view};
+ghost use Rattle.stair_engine.specs.Volumes.{volumes_program};
+ghost use Rattle.stair_command.specs.Devices.{ExecutesWhole, device_view};
+ghost use Rattle.stair_command.specs.Fault.{status_of};
+ghost use Rattle.stair_command.specs.Outside.{outside, views};
+ghost use Rattle.stair_command.specs.Program.{Over};
+ghost use Rattle.stair_command.specs.Rack.{rack_view};
 ghost use Rattle.stair_volume.specs.Parts.{MakesSome};
 ghost use Rattle.stair_watch.specs.WatcherList.{AllStay};
 
 use crate::open::open;
 use stair_base::SECTOR;
+use stair_command::{Fault, Piece, Status};
 use stair_conf::VolumeJob;
 use stair_member::survey;
 use stair_rack::{Rack, Sink, Source, Watcher};
-use stair_story::{Fault, Piece, Status};
 use stair_volume::volume;
 use std::alloc::Global;
 
@@ -28,9 +28,9 @@ pub(crate) fn volumes<R: Rack, S: Source, K: Sink>(
 ) -> Result<Status, Fault>
     requires some { MakesSome job.now }
     requires stay { AllStay hears watchers.old.items }
-    ensures means { (counter : ℕ) → MeansWhole
+    ensures means { (counter : ℕ) → ExecutesWhole
         (device_view (rack_view R.Rack) hears) (views S.Source K.Sink)
-        (volumes_plan job.now) (Over (status_of result))
+        (volumes_program job.now) (Over (status_of result))
         (outside input.old output.old counter) (outside input.new output.new counter)
         rack.old rack.new watchers.old.items watchers.new.items }
     ensures stay { AllStay hears watchers.new.items }

@@ -3,7 +3,7 @@ ghost use Rattle.std.specs.Prelude.{None};
 
 use stair_calls::{FOUR, WHOLE, call_into, with_array, words_of};
 use stair_engine::Status;
-use stair_engine::laws::plan_laws;
+use stair_engine::laws::program_laws;
 use stair_memrack::MemRack;
 use stair_rack::{MemSink, MemSource, Put, Sink};
 use stair_watch::Kept;
@@ -40,7 +40,7 @@ fn a_line_is_one_put(rt: HostRuntime) -> Result<(), Fail> {
     let ended = call_into(rt.alloc(), &mut rack, &words, &[], WHOLE, &mut output)?;
     assert_eq!(rt; ended.status, Status::Done);
     assert_eq!(rt; output.puts, 7);
-    plan_laws::<MemRack, Kept, MemSource, MemSink>();
+    program_laws::<MemRack, Kept, MemSource, MemSink>();
     Ok(())
 }
 

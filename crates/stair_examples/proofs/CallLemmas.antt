@@ -1,4 +1,4 @@
--- Stories that follow the plan which copies two bytes, and runs over the new rack.
+-- Traces that follow the program which copies two bytes, and runs over the new rack.
 use Rattle.std.proofs.Common.{◌≡◌, ◌≢◌, ℕ, List, [], ◌∷◌, ◌++◌, inl, inr, refl, sym, ap, ◌∙◌, subst, arith, length, get_or, None, Some, Option, Ok, Err, false}
 use Rattle.std.specs.Prelude.{◌==◌, Bool, if◌then◌else◌}
 use Rattle.std.proofs.lemmas.Bool.{cases_eq, ne_eqb}
@@ -15,22 +15,22 @@ use Rattle.stair_state.specs.Blocks.{zero_block}
 use Rattle.stair_state.specs.Represents.{Represents, RepresentsAlone}
 use Rattle.stair_state.specs.State.{Content, State, first_seats}
 use Rattle.stair_state.proofs.AloneLemmas.{each_left}
-use Rattle.stair_session.specs.Returning.{NoneReturns}
+use Rattle.stair_invariant.specs.Returning.{NoneReturns}
 use Rattle.stair_array.specs.Machine.{Answer, InDoubt, IsAsItWas, Made as MadeChange, MayBeCut, ReadBlock, Refusal, Row, Step, write_block}
 use Rattle.stair_array.specs.Promise.{Begun, IsLeftBy}
-use Rattle.stair_return.specs.Misled.{five}
+use Rattle.stair_reinsert.specs.Misled.{five}
 use Rattle.stair_status.specs.declared.status.Status.{Status}
 use Rattle.stair_status.specs.declared.status.Status.TheVariants.{Done, Input, InputFault, OutputFault}
-use Rattle.stair_story.specs.Devices.{Devices, MeansWhole, WorksAll, devices}
-use Rattle.stair_story.specs.Means.{Bears, Means}
-use Rattle.stair_story.specs.Outside.{outside}
-use Rattle.stair_story.specs.Plan.{Over, Plan, Put}
-use Rattle.stair_story.specs.Run.{Goes, IsLeftByNext, IsNext, Now, Runs, TakesStep, now}
-use Rattle.stair_story.specs.Story.{Deed, Did, Found, Grew, HasPut, Leads, Moves, PutFailed, RanOut, Stepped, TakeFailed, Took, TookLast}
-use Rattle.stair_story.proofs.PerformedLaws.{borne_whole}
+use Rattle.stair_command.specs.Devices.{Devices, ExecutesWhole, WorksAll, devices}
+use Rattle.stair_command.specs.Executes.{Bears, Executes}
+use Rattle.stair_command.specs.Outside.{outside}
+use Rattle.stair_command.specs.Program.{Over, Program, Put}
+use Rattle.stair_command.specs.Run.{Goes, IsLeftByNext, IsNext, Now, Runs, TakesStep, now}
+use Rattle.stair_command.specs.Trace.{TraceItem, Did, Found, Grew, HasPut, AlongTrace, StepsProgram, PutFailed, RanOut, Stepped, TakeFailed, Took, TookLast}
+use Rattle.stair_command.proofs.PerformedLaws.{borne_whole}
 use Rattle.stair_reinsert_examples.proofs.FiveConsistent.{made_tidy}
 use Rattle.stair_examples.specs.Arrays.{chunk_sector, first_edition, made_new, new_rack, other_bytes, zero_words}
-use Rattle.stair_examples.specs.Calls.{ExamplesOfGoes, ExamplesOfIsBorneOut, ExamplesOfIsRun, ExamplesOfIsSafe, ExamplesOfMeans, IsBorneOutBy, IsSafeAt, closed_session, copies_two, holding_others, holding_zeros, looked, over_history, reads_block, streams, written}
+use Rattle.stair_examples.specs.Calls.{ExamplesOfGoes, ExamplesOfRefinesProgram, ExamplesOfIsRun, ExamplesOfIsSafe, ExamplesOfExecutes, RefinesProgramBy, IsSafeAt, closed_session, copies_two, holding_others, holding_zeros, looked, over_history, reads_block, streams, written}
 use Rattle.stair_examples.specs.Journals.{knowing}
 use Rattle.stair_examples.proofs.NewRackLemmas.{represents}
 use Rattle.stair_examples.proofs.RepresentsLemmas.{HasChunk, has_chunk, holding, not_now, other_zero}
@@ -38,7 +38,7 @@ use Rattle.stair_examples.proofs.RepresentsLemmas.{HasChunk, has_chunk, holding,
 -- STORIES OF THE PLAN
 
 -- a call that is over does nothing more
-no_move : (deed : Deed) (status : Status) (mid : Plan) → ¬ Moves deed (Over status) mid
+no_move : (item : TraceItem) (status : Status) (mid : Program) → ¬ StepsProgram item (Over status) mid
 no_move (Found question) status mid moves = moves
 no_move (Took bytes) status mid moves = moves
 no_move (TookLast bytes) status mid moves = moves
@@ -50,16 +50,16 @@ no_move RanOut status mid moves = moves
 no_move (Did action came) status mid moves = moves
 no_move (Stepped step came events left) status mid moves = moves
 
-over_same : (story : List Deed) (status : Status) → Leads Moves story (Over status) (Over Done) → (story ≡ []) × (status ≡ Done)
+over_same : (trace : List TraceItem) (status : Status) → AlongTrace StepsProgram trace (Over status) (Over Done) → (trace ≡ []) × (status ≡ Done)
 over_same [] status same = let done : status ≡ Done = cc in (refl, done)
-over_same (deed ∷ more) status leads = absurd (no_move deed status leads.0 leads.1)
+over_same (item ∷ more) status leads = absurd (no_move item status leads.0 leads.1)
 
--- from a plan that is known by an equation
-over_then : (story : List Deed) (mid : Plan) (status : Status) → mid ≡ Over status → Leads Moves story mid (Over Done)
-    → (story ≡ []) × (status ≡ Done)
-over_then story mid status is leads = over_same story status (subst (λ (p : Plan). Leads Moves story p (Over Done)) is leads)
+-- from a program that is known by an equation
+over_then : (trace : List TraceItem) (mid : Program) (status : Status) → mid ≡ Over status → AlongTrace StepsProgram trace mid (Over Done)
+    → (trace ≡ []) × (status ≡ Done)
+over_then trace mid status is leads = over_same trace status (subst (λ (p : Program). AlongTrace StepsProgram trace p (Over Done)) is leads)
 
-puts : (story : List Deed) (bytes : List ℕ) → Leads Moves story (Put bytes (Over Done)) (Over Done) → story ≡ HasPut bytes ∷ []
+puts : (trace : List TraceItem) (bytes : List ℕ) → AlongTrace StepsProgram trace (Put bytes (Over Done)) (Over Done) → trace ≡ HasPut bytes ∷ []
 puts [] bytes same = absurd (cc)
 puts (HasPut put ∷ more) bytes leads =
     let all : put ≡ bytes = leads.1.0 in
@@ -77,15 +77,15 @@ puts (Did action came ∷ more) bytes leads = absurd leads.1
 puts (Stepped step came events left ∷ more) bytes leads = absurd leads.1
 
 -- two bytes are taken, and these are put out
-record IsCopy (story : List Deed) : Type 0 where
+record IsCopy (trace : List TraceItem) : Type 0 where
   bytes : List ℕ
-  is : story ≡ Took bytes ∷ HasPut bytes ∷ []
+  is : trace ≡ Took bytes ∷ HasPut bytes ∷ []
 
-copies : (story : List Deed) → Leads Moves story copies_two (Over Done) → IsCopy story
+copies : (trace : List TraceItem) → AlongTrace StepsProgram trace copies_two (Over Done) → IsCopy trace
 copies [] same = absurd (cc)
 copies (Took bytes ∷ more) leads =
-    let rest : more ≡ HasPut bytes ∷ [] = puts more bytes (subst (λ (p : Plan). Leads Moves more p (Over Done)) leads.1.1 leads.2) in
-    record { bytes = bytes; is = ap (λ (l : List Deed). Took bytes ∷ l) rest }
+    let rest : more ≡ HasPut bytes ∷ [] = puts more bytes (subst (λ (p : Program). AlongTrace StepsProgram more p (Over Done)) leads.1.1 leads.2) in
+    record { bytes = bytes; is = ap (λ (l : List TraceItem). Took bytes ∷ l) rest }
 copies (TookLast bytes ∷ more) leads =
     let short : Input 2 (length bytes) ≡ Done = (over_then more leads.0 (Input 2 (length bytes)) leads.1.1 leads.2).1 in absurd (cc)
 copies (TakeFailed bytes ∷ more) leads =
@@ -100,12 +100,12 @@ copies (Stepped step came events left ∷ more) leads = absurd leads.1
 
 -- WHAT IT MEANS
 
-abbrev copy : List Deed
+abbrev copy : List TraceItem
 copy = Took (7 ∷ 8 ∷ []) ∷ HasPut (7 ∷ 8 ∷ []) ∷ []
 
-means : Means streams copies_two (Over Done) (outside (7 ∷ 8 ∷ 9 ∷ []) [] 0) (outside (9 ∷ []) (7 ∷ 8 ∷ []) 0)
+means : Executes streams copies_two (Over Done) (outside (7 ∷ 8 ∷ 9 ∷ []) [] 0) (outside (9 ∷ []) (7 ∷ 8 ∷ []) 0)
 means = record {
-  story = copy;
+  trace = copy;
   follows =
       (Put (7 ∷ 8 ∷ []) (Over Done), (record { enough = omega arith; within = omega arith }, refl), (Over Done, (refl, refl), refl));
   bears = record {
@@ -116,8 +116,8 @@ means = record {
 }
 
 -- what is put out is what was taken
-not_other : (story : List Deed) → IsCopy story → ¬ Bears streams story (outside (7 ∷ 8 ∷ 9 ∷ []) [] 0) (outside (9 ∷ []) (7 ∷ 9 ∷ []) 0)
-not_other story of bears = by (subst (λ (s : List Deed). Bears streams s (outside (7 ∷ 8 ∷ 9 ∷ []) [] 0) (outside (9 ∷ []) (7 ∷ 9 ∷ []) 0)) of.is bears)
+not_other : (trace : List TraceItem) → IsCopy trace → ¬ Bears streams trace (outside (7 ∷ 8 ∷ 9 ∷ []) [] 0) (outside (9 ∷ []) (7 ∷ 9 ∷ []) 0)
+not_other trace of bears = by (subst (λ (s : List TraceItem). Bears streams s (outside (7 ∷ 8 ∷ 9 ∷ []) [] 0) (outside (9 ∷ []) (7 ∷ 9 ∷ []) 0)) of.is bears)
   where
     by : ¬ Bears streams (Took of.bytes ∷ HasPut of.bytes ∷ []) (outside (7 ∷ 8 ∷ 9 ∷ []) [] 0) (outside (9 ∷ []) (7 ∷ 9 ∷ []) 0)
     by is =
@@ -133,41 +133,41 @@ not_other story of bears = by (subst (λ (s : List Deed). Bears streams s (outsi
         let second : 8 ≡ 9 = ap (λ (l : List ℕ). get_or l 1 0) all in
         omega (arith, second)
 
-pub meanings : ExamplesOfMeans
-meanings = record { holds = means; fails = λ is. not_other is.story (copies is.story is.follows) is.bears }
+pub meanings : ExamplesOfExecutes
+meanings = record { holds = means; fails = λ is. not_other is.trace (copies is.trace is.follows) is.bears }
 
 -- WHOLE CALLS
 
-whole : MeansWhole over_history streams copies_two (Over Done) (outside (7 ∷ 8 ∷ 9 ∷ []) [] 0) (outside (9 ∷ []) (7 ∷ 8 ∷ []) 0) made_new made_new [] []
+whole : ExecutesWhole over_history streams copies_two (Over Done) (outside (7 ∷ 8 ∷ 9 ∷ []) [] 0) (outside (9 ∷ []) (7 ∷ 8 ∷ []) 0) made_new made_new [] []
 unfolding means
 whole = record {
   session = Begun;
   with = record { means = means; works = (devices made_new Begun [], refl, (devices made_new Begun [], refl, refl)) };
 }
 
-borne_out : IsBorneOutBy made_new
-borne_out =
+refines : RefinesProgramBy made_new
+refines =
     borne_whole over_history streams copies_two (Over Done) (outside (7 ∷ 8 ∷ 9 ∷ []) [] 0) (outside (9 ∷ []) (7 ∷ 8 ∷ []) 0) made_new made_new [] [] whole
 
--- neither deed calls a device
-same_rack : (story : List Deed) (first last : Devices (List Happening) (Unit {0})) → IsCopy story → Leads (WorksAll over_history) story first last
+-- neither item calls a device
+same_rack : (trace : List TraceItem) (first last : Devices (List Happening) (Unit {0})) → IsCopy trace → AlongTrace (WorksAll over_history) trace first last
     → last.rack ≡ first.rack
-same_rack story first last of works =
-    by (subst (λ (s : List Deed). Leads (WorksAll over_history) s first last) of.is works)
+same_rack trace first last of works =
+    by (subst (λ (s : List TraceItem). AlongTrace (WorksAll over_history) s first last) of.is works)
   where
-    by : Leads (WorksAll over_history) (Took of.bytes ∷ HasPut of.bytes ∷ []) first last → last.rack ≡ first.rack
+    by : AlongTrace (WorksAll over_history) (Took of.bytes ∷ HasPut of.bytes ∷ []) first last → last.rack ≡ first.rack
     by is = ap (λ (x : Devices (List Happening) (Unit {0})). x.rack) (is.2.2 ∙ is.2.1 ∙ is.1)
 
-not_borne_out : ¬ IsBorneOutBy written
-not_borne_out is =
+not_refines : ¬ RefinesProgramBy written
+not_refines is =
     let same : written ≡ made_new =
-    same_rack is.over.means.story (devices made_new Begun []) (devices written is.session [])
-    (copies is.over.means.story is.over.means.follows) is.over.works in
+    same_rack is.over.means.trace (devices made_new Begun []) (devices written is.session [])
+    (copies is.over.means.trace is.over.means.follows) is.over.works in
     let longer : 3 ≡ 1 = ap length same in
     omega (arith, longer)
 
-pub calls : ExamplesOfIsBorneOut
-calls = record { holds = borne_out; fails = not_borne_out }
+pub calls : ExamplesOfRefinesProgram
+calls = record { holds = refines; fails = not_refines }
 
 -- STEPS
 
@@ -321,16 +321,16 @@ safe = record {
       inl (each_left new_rack (made_tidy zero_words first_edition) (RepresentsAlone holding_zeros) represents image (same_sectors image leaves));
 }
 
--- no deed was done, so the state is the one before
-first_state : (done later : List Deed) (state : State) (h : List Happening) (stopped : Option Refusal) → [] ≡ done ++ later
+-- no item was done, so the state is the one before
+first_state : (done later : List TraceItem) (state : State) (h : List Happening) (stopped : Option Refusal) → [] ≡ done ++ later
     → Runs NoneReturns made_new done (now holding_zeros made_new None) (now state h stopped) → state ≡ holding_zeros
 first_state [] later state h stopped part run = ap (λ (n : Now). n.state) run
-first_state (deed ∷ done) later state h stopped part run = absurd (cc)
+first_state (item ∷ done) later state h stopped part run = absurd (cc)
 
--- and all of the plan is left
-whole_plan : (done later : List Deed) (plan rest : Plan) → [] ≡ done ++ later → Leads Moves done plan rest → rest ≡ plan
-whole_plan [] later plan rest part leads = leads
-whole_plan (deed ∷ done) later plan rest part leads = absurd (cc)
+-- and all of the program is left
+whole_program : (done later : List TraceItem) (program rest : Program) → [] ≡ done ++ later → AlongTrace StepsProgram done program rest → rest ≡ program
+whole_program [] later program rest part leads = leads
+whole_program (item ∷ done) later program rest part leads = absurd (cc)
 
 -- a read changes nothing, whatever it answers
 row_of_read : (answer : Answer (ReadBlock 0)) (begun : Seats) (new : State) → Row (ReadBlock 0) answer begun holding_zeros new
@@ -390,7 +390,7 @@ not_safe is =
     not_next : (s : State) → s ≡ holding_zeros
         → ¬ IsLeftByNext NoneReturns made_new written is.rest (now s is.mid.rack is.stopped) left
     not_next s same next =
-        let read : next.step ≡ ReadBlock 0 = subst (λ (p : Plan). IsNext p next.step) (whole_plan is.done is.later reads_block is.rest is.part is.follows) next.next in
+        let read : next.step ≡ ReadBlock 0 = subst (λ (p : Program). IsNext p next.step) (whole_program is.done is.later reads_block is.rest is.part is.follows) next.next in
         cut_read next.step next.member s read same next.left
 
 pub crashes : ExamplesOfIsSafe

@@ -10,9 +10,9 @@ use Rattle.stair_super.specs.declared.mark.Mark.TheVariants.{Down, Live}
 use Rattle.stair_member.specs.Editions.{Edition, copy_of}
 use Rattle.stair_member.proofs.SuperLemmas.{one_super}
 use Rattle.stair_copies.specs.Copies.{IsOlderCopy}
-use Rattle.stair_state.specs.Holding.{Holders}
+use Rattle.stair_state.specs.Holding.{CurrentMedia}
 use Rattle.stair_array.proofs.CreatedLemmas.{zero}
-use Rattle.stair_return.specs.Misled.{five}
+use Rattle.stair_reinsert.specs.Misled.{five}
 use Rattle.stair_reinsert_examples.specs.Refused.{all_live}
 use Rattle.stair_reinsert_examples.proofs.FiveConsistent.{IsCut, in_place, made_consistent}
 use Rattle.stair_reinsert_examples.proofs.FiveDevices.{AreEditions, device_super, five_limits, place_cell}
@@ -79,8 +79,8 @@ one i j same =
 
 -- ---- the rack
 
-abbrev holders : Holders
-holders j = Some (joined_in fifth j)
+abbrev current_media : CurrentMedia
+current_media j = Some (joined_in fifth j)
 
 held : (i j : ℕ) → joined_in fifth j ≡ joined_in (restored i).array j
 held i j =
@@ -101,7 +101,7 @@ few_copies : slot_count copy_alone ≤ 2
 unfolding sum_below
 few_copies = let one : slot_count copy_alone ≡ 1 = refl in omega (arith, one)
 
-cut : IsCut zero_words restored holders 4
+cut : IsCut zero_words restored current_media 4
 cut = record {
   least =
       five_cases (λ j. j < 5 → 4 ≤ (restored j).array.epoch) (λ b. omega arith) (λ b. omega arith) (λ b. omega arith) (λ b. omega arith)
@@ -153,5 +153,5 @@ pub examples : ExamplesOfIsOlderCopy
 examples = record {
   holds = copy;
   fails = no_copy;
-  consistent = made_consistent zero_words restored are (zero five five_limits) holders 4 cut;
+  consistent = made_consistent zero_words restored are (zero five five_limits) current_media 4 cut;
 }

@@ -5,7 +5,7 @@ use Rattle.stair_model.specs.Stripe.{cell}
 use Rattle.stair_rack.specs.Sector.{Cell, Damaged, Good, Torn, TornOverDamage}
 use Rattle.stair_journal.specs.Body.{Harmed, Holds, IsOrDamaged}
 use Rattle.stair_state.specs.Forms.{Encodes}
-use Rattle.stair_return.specs.Misled.{five}
+use Rattle.stair_reinsert.specs.Misled.{five}
 use Rattle.stair_reinsert_examples.proofs.FiveSurvey.{five_cases}
 use Rattle.stair_examples.specs.Arrays.{ExamplesOfEncodes, all_slots, other_bytes, with_cell_of, zero_words}
 

@@ -16,7 +16,7 @@ use Rattle.stair_journal.specs.Gate.{IsOpenWith, ReadsClosed, open_gate}
 use Rattle.stair_journal.specs.declared.redo.Redo.{Redo}
 use Rattle.stair_journal.proofs.GateLemmas.{closed, once}
 use Rattle.stair_array.proofs.NewArrayLemmas.{not_in_none}
-use Rattle.stair_return.specs.Misled.{five}
+use Rattle.stair_reinsert.specs.Misled.{five}
 use Rattle.stair_reinsert_examples.specs.Refused.{whole_redo}
 use Rattle.stair_reinsert_examples.proofs.FiveDevices.{five_limits}
 use Rattle.stair_reinsert_examples.proofs.FiveSupers.{named}

@@ -3,10 +3,10 @@ use Rattle.std.proofs.Common.{◌≡◌, ℕ, ◌<◌, List, inl, refl, ap, arit
 use Rattle.std.specs.Prelude.{Bool, true, false}
 use Rattle.stair_state.specs.Blocks.{zero_block}
 use Rattle.stair_state.specs.State.{State, created_state, first_content, first_seats, without_seats}
-use Rattle.stair_story.specs.LifeExample.{LeftNew, block_of, cut_write, example_geometry, held_after, left_by, open_with, opening}
-use Rattle.stair_story.specs.Lives.{Lives, Turns, WasCut, after_turn, earlier, fate, read_of}
-use Rattle.stair_story.proofs.ExampleLaws.{is_example}
-use Rattle.stair_story.proofs.LifeLaws.{reads_are_explained}
+use Rattle.stair_command.specs.LifeExample.{LeftNew, block_of, cut_write, example_geometry, held_after, left_by, open_with, opening}
+use Rattle.stair_command.specs.Lives.{Lives, Turns, WasCut, after_turn, earlier, fate, read_of}
+use Rattle.stair_command.proofs.ExampleLaws.{is_example}
+use Rattle.stair_command.proofs.LifeLaws.{reads_are_explained}
 use Rattle.stair_examples.specs.Histories.{ExamplesOfLives, reads_after_cut}
 
 -- what the cut left where it was made, and what is then open

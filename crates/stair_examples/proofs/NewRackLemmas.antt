@@ -18,7 +18,7 @@ use Rattle.stair_state.proofs.AloneLemmas.{each_left, steady_made}
 use Rattle.stair_array.specs.Created.{IsNewArray, Kept, created_sector, first_super}
 use Rattle.stair_array.proofs.CreatedLemmas.{created_behind, created_place, first_is_super, mark_first}
 use Rattle.stair_array.proofs.NewArrayLemmas.{new_represents}
-use Rattle.stair_return.specs.Misled.{device_cell, five}
+use Rattle.stair_reinsert.specs.Misled.{device_cell, five}
 use Rattle.stair_reinsert_examples.proofs.AllowedEpochs.{few_first, first_formed, only_first}
 use Rattle.stair_reinsert_examples.proofs.FiveConsistent.{inside, made_tidy}
 use Rattle.stair_reinsert_examples.proofs.FiveCounted.{Stands, tolerated}

@@ -28,7 +28,7 @@ use Rattle.stair_state.specs.State.{Content, State, created_state, first_content
 use Rattle.stair_state.proofs.BlockLemmas.{at}
 use Rattle.stair_array.specs.Created.{first_super}
 use Rattle.stair_array.proofs.CreatedLemmas.{first_held, zero}
-use Rattle.stair_return.specs.Misled.{five}
+use Rattle.stair_reinsert.specs.Misled.{five}
 use Rattle.stair_reinsert_examples.proofs.AllowedEpochs.{drawn_allowed}
 use Rattle.stair_reinsert_examples.proofs.FiveDevices.{five_limits, older_none}
 use Rattle.stair_reinsert_examples.proofs.FiveSurvey.{five_cases}

@@ -17,8 +17,8 @@ use Rattle.stair_state.specs.Degraded.{AreAllDamaged}
 use Rattle.stair_state.specs.Tolerance.{IsWithinTolerance}
 use Rattle.stair_state.proofs.FormLemmas.{good_kept}
 use Rattle.stair_array.proofs.CreatedLemmas.{mark_first}
-use Rattle.stair_session.specs.Returning.{AnyReturns, IsCalm}
-use Rattle.stair_return.specs.Misled.{device_of, five}
+use Rattle.stair_invariant.specs.Returning.{AnyReturns, StaysWithinTolerance}
+use Rattle.stair_reinsert.specs.Misled.{device_of, five}
 use Rattle.stair_reinsert_examples.proofs.AllowedEpochs.{few_first, first_formed, has_first, only_first}
 use Rattle.stair_reinsert_examples.proofs.FiveConsistent.{inside}
 use Rattle.stair_reinsert_examples.proofs.FiveCounted.{Stands, each_act, tolerated_at}
@@ -27,7 +27,7 @@ use Rattle.stair_reinsert_examples.proofs.FiveMoments.{HoldsDevice, back_holds, 
 use Rattle.stair_reinsert_examples.proofs.FiveSupers.{past_none}
 use Rattle.stair_reinsert_examples.proofs.FiveSurvey.{five_cases}
 use Rattle.stair_reinsert_examples.proofs.FiveWithin.{IsAllBut, IsWhole, tolerated}
-use Rattle.stair_examples.specs.Arrays.{ExamplesOfIsCalm, ExamplesOfIsWithinTolerance, devices_from, first_edition, made_new, new_rack, pulled_of, returned, zero_words}
+use Rattle.stair_examples.specs.Arrays.{ExamplesOfStaysWithinTolerance, ExamplesOfIsWithinTolerance, devices_from, first_edition, made_new, new_rack, pulled_of, returned, zero_words}
 use Rattle.stair_examples.proofs.NewRackLemmas.{are, beside_first, beside_kept, live_all, many_beside, stood}
 
 -- THREE ARE TOO MANY
@@ -162,7 +162,7 @@ throughout =
     (each_act zero_words first_edition only_first made_new 0 (Pulled (device_of zero_words first_edition 0)) stood pulled_stands)
     (each_act zero_words first_edition only_first pulled 0 (InsertedOld 0) pulled_stands returned_stands)
 
-calm : IsCalm AnyReturns five true made_new returned
+calm : StaysWithinTolerance AnyReturns five true made_new returned
 calm =
     tolerated_at zero_words first_edition only_first are first_formed few_first beside_first refl many_beside beside_kept 1 (omega arith)
     (λ out. false≢true out) returned throughout
@@ -177,7 +177,7 @@ some_returned (e ∷ more) is each =
 abbrev three_pulled : List Happening
 three_pulled = pulled_of (2 ∷ 1 ∷ 0 ∷ [])
 
-third : ¬ IsCalm AnyReturns five true made_new three_pulled
+third : ¬ StaysWithinTolerance AnyReturns five true made_new three_pulled
 third is =
     too_many (IsOffline made_new three_pulled) (image_now three_pulled) (NoMedium refl) (NoMedium refl) (NoMedium refl)
     (is three_pulled
@@ -190,5 +190,5 @@ third is =
     })
     (image_now three_pulled) (CrashMayLeave-now three_pulled))
 
-pub calms : ExamplesOfIsCalm
+pub calms : ExamplesOfStaysWithinTolerance
 calms = record { holds = calm; fails = λ is. some_returned is.1.more is.1.is is.1.each; third = third }

@@ -12,9 +12,9 @@ use Rattle.stair_state.specs.Holding.{IsConsistentUnderReassembly}
 use Rattle.stair_state.specs.Represents.{Represents}
 use Rattle.stair_state.specs.State.{created_state, without_seats}
 use Rattle.stair_state.specs.Tolerance.{IsToleratedAlone}
-use Rattle.stair_session.specs.Returning.{AnyReturns, IsCalm, NoneReturns}
+use Rattle.stair_invariant.specs.Returning.{AnyReturns, StaysWithinTolerance, NoneReturns}
 use Rattle.stair_array.specs.Created.{first_configuration}
-use Rattle.stair_return.specs.Misled.{device_of, five, rack_of}
+use Rattle.stair_reinsert.specs.Misled.{device_of, five, rack_of}
 use Rattle.stair_reinsert_examples.specs.Refused.{drawn, first_pulled, undrawn}
 
 -- THE RACK
@@ -80,10 +80,10 @@ abbrev pub returned : List Happening
 returned = Acted 0 (InsertedOld 0) ∷ pulled_of (0 ∷ [])
 
 -- Of an open array a device may be pulled and put back where media may come back, and not where none may. No three may be pulled.
-pub record ExamplesOfIsCalm : Type 0 where
-  pub holds : IsCalm AnyReturns five true made_new returned
-  pub fails : ¬ IsCalm NoneReturns five true made_new returned
-  pub third : ¬ IsCalm AnyReturns five true made_new (pulled_of (2 ∷ 1 ∷ 0 ∷ []))
+pub record ExamplesOfStaysWithinTolerance : Type 0 where
+  pub holds : StaysWithinTolerance AnyReturns five true made_new returned
+  pub fails : ¬ StaysWithinTolerance NoneReturns five true made_new returned
+  pub third : ¬ StaysWithinTolerance AnyReturns five true made_new (pulled_of (2 ∷ 1 ∷ 0 ∷ []))
 
 -- REPRESENTING
 

@@ -1,4 +1,4 @@
--- Plans, stories and runs over the new array of five devices.
+-- Programs, traces and runs over the new array of five devices.
 use Rattle.std.specs.Prelude.{ℕ, true, false, List, [], ◌∷◌, None, Some, Ok, length}
 use Rattle.stair_rack.specs.History.{Attach, Called, Happening, Read, Write}
 use Rattle.stair_rack.specs.Watching.{Heard}
@@ -6,18 +6,18 @@ use Rattle.stair_rack.specs.declared.rack.Got.TheVariants.{Good as was_good}
 use Rattle.stair_rack.specs.declared.rack.Reply.TheVariants.{Done as was_done}
 use Rattle.stair_state.specs.Blocks.{zero_block}
 use Rattle.stair_state.specs.State.{State, changed_if, created_state}
-use Rattle.stair_session.specs.Returning.{NoneReturns}
+use Rattle.stair_invariant.specs.Returning.{NoneReturns}
 use Rattle.stair_array.specs.Machine.{GivenBy, ReadBlock, Step, change_of, write_block}
 use Rattle.stair_array.specs.Promise.{Closed}
 use Rattle.stair_status.specs.declared.status.Status.TheVariants.{Done, Input}
-use Rattle.stair_story.specs.Devices.{DeviceView, Devices, devices}
-use Rattle.stair_story.specs.Headline.{IsBorneOut}
-use Rattle.stair_story.specs.Means.{Means}
-use Rattle.stair_story.specs.Outside.{Views, outside}
-use Rattle.stair_story.specs.Plan.{Over, Plan, Put, take_exactly, take_step}
-use Rattle.stair_story.specs.Run.{Goes, IsRun, IsSafe, now}
-use Rattle.stair_story.specs.Story.{Deed, Stepped}
-use Rattle.stair_return.specs.Misled.{five}
+use Rattle.stair_command.specs.Devices.{DeviceView, Devices, devices}
+use Rattle.stair_command.specs.Headline.{RefinesProgram}
+use Rattle.stair_command.specs.Executes.{Executes}
+use Rattle.stair_command.specs.Outside.{Views, outside}
+use Rattle.stair_command.specs.Program.{Over, Program, Put, take_exactly, take_step}
+use Rattle.stair_command.specs.Run.{Goes, IsRun, IsSafe, now}
+use Rattle.stair_command.specs.Trace.{TraceItem, Stepped}
+use Rattle.stair_reinsert.specs.Misled.{five}
 use Rattle.stair_examples.specs.Arrays.{chunk_sector, made_new, other_bytes}
 
 -- WHAT A CALL HAS
@@ -30,7 +30,7 @@ streams = record {
 }
 
 abbrev pub none_heard : Heard
-none_heard = record { told = None; count = λ kind. 0; left = false; patience = None }
+none_heard = record { told = None; count = λ kind. 0; left = false; remaining_quota = None }
 
 -- an honest rack, which is its history, and no watchers
 abbrev pub over_history : DeviceView (List Happening) (Unit {0})
@@ -46,14 +46,14 @@ closed_session h = devices h Closed []
 -- PLANS
 
 -- two bytes are taken and put out
-abbrev pub copies_two : Plan
+abbrev pub copies_two : Program
 copies_two = take_exactly 2 (λ bytes. Put bytes (Over Done)) (λ bytes. Over (Input 2 (length bytes)))
 
 -- What is put out is what was taken.
-pub record ExamplesOfMeans : Type 0 where
-  pub holds : Means streams copies_two (Over Done) (outside (7 ∷ 8 ∷ 9 ∷ []) [] 0)
+pub record ExamplesOfExecutes : Type 0 where
+  pub holds : Executes streams copies_two (Over Done) (outside (7 ∷ 8 ∷ 9 ∷ []) [] 0)
       (outside (9 ∷ []) (7 ∷ 8 ∷ []) 0)
-  pub fails : ¬ Means streams copies_two (Over Done) (outside (7 ∷ 8 ∷ 9 ∷ []) [] 0)
+  pub fails : ¬ Executes streams copies_two (Over Done) (outside (7 ∷ 8 ∷ 9 ∷ []) [] 0)
       (outside (9 ∷ []) (7 ∷ 9 ∷ []) 0)
 
 -- the sector of the chunk of slot 0's device is read
@@ -64,15 +64,15 @@ looked = Called 0 (Read chunk_sector was_good) ∷ Called 0 (Attach was_done) �
 abbrev pub written : List Happening
 written = Called 0 (Write chunk_sector other_bytes was_done) ∷ Called 0 (Attach was_done) ∷ made_new
 
--- a whole call of the plan that copies two bytes, after which the rack has this history
-abbrev pub IsBorneOutBy : List Happening → Type 0
-IsBorneOutBy last = IsBorneOut over_history streams copies_two (Over Done)
+-- a whole call of the program that copies two bytes, after which the rack has this history
+abbrev pub RefinesProgramBy : List Happening → Type 0
+RefinesProgramBy last = RefinesProgram over_history streams copies_two (Over Done)
     (outside (7 ∷ 8 ∷ 9 ∷ []) [] 0) (outside (9 ∷ []) (7 ∷ 8 ∷ []) 0) made_new last [] []
 
--- No deed of the plan calls a device, so a call leaves all devices as they were.
-pub record ExamplesOfIsBorneOut : Type 0 where
-  pub holds : IsBorneOutBy made_new
-  pub fails : ¬ IsBorneOutBy written
+-- No item of the program calls a device, so a call leaves all devices as they were.
+pub record ExamplesOfRefinesProgram : Type 0 where
+  pub holds : RefinesProgramBy made_new
+  pub fails : ¬ RefinesProgramBy written
 
 -- RUNS
 
@@ -92,13 +92,13 @@ pub record ExamplesOfGoes : Type 0 where
   pub fails : ¬ Goes NoneReturns made_new (Stepped (write_block 0 other_bytes) (Ok tt) [] false)
       (now holding_zeros made_new None) (now holding_zeros made_new None)
 
--- the story of this step, which was done
-abbrev pub did : (step : Step) → GivenBy step → List Deed
+-- the trace of this step, which was done
+abbrev pub did : (step : Step) → GivenBy step → List TraceItem
 did step given = Stepped step (Ok given) [] false ∷ []
 
 -- it is a run over the new rack, and leaves that as it was
-abbrev pub IsRunHere : List Deed → Type 0
-IsRunHere story = IsRun over_history NoneReturns made_new holding_zeros story
+abbrev pub IsRunHere : List TraceItem → Type 0
+IsRunHere trace = IsRun over_history NoneReturns made_new holding_zeros trace
     (closed_session made_new) (closed_session made_new)
 
 -- A read gives what the block holds. What was written is on the devices in the end.
@@ -107,8 +107,8 @@ pub record ExamplesOfIsRun : Type 0 where
   pub fails : ¬ IsRunHere (did (ReadBlock 0) other_bytes)
   pub lost : ¬ IsRunHere (did (write_block 0 other_bytes) tt)
 
--- the plan of one read
-abbrev pub reads_block : Plan
+-- the program of one read
+abbrev pub reads_block : Program
 reads_block = take_step 5 (ReadBlock 0) (λ bytes. Over Done)
 
 -- a crash comes within that read, after these calls

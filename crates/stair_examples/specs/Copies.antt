@@ -8,7 +8,7 @@ use Rattle.stair_member.specs.Editions.{Edition}
 use Rattle.stair_copies.specs.Copies.{IsOlderCopy}
 use Rattle.stair_state.specs.Holding.{IsConsistentUnderReassembly}
 use Rattle.stair_state.specs.State.{created_state, without_seats}
-use Rattle.stair_return.specs.Misled.{five, naming, rack_of}
+use Rattle.stair_reinsert.specs.Misled.{five, naming, rack_of}
 use Rattle.stair_reinsert_examples.specs.Refused.{all_live}
 use Rattle.stair_examples.specs.Arrays.{zero_words}
 

@@ -2,8 +2,8 @@
 use Rattle.std.specs.Prelude.{ℕ, List, ◌∷◌}
 use Rattle.stair_state.specs.Blocks.{zero_block}
 use Rattle.stair_state.specs.State.{State, created_state, first_content}
-use Rattle.stair_story.specs.LifeExample.{LeftNew, block_of, cut_write, example_geometry, first_session, held_after, open_with, opening}
-use Rattle.stair_story.specs.Lives.{Ended, Lives, Turn, read_of}
+use Rattle.stair_command.specs.LifeExample.{LeftNew, block_of, cut_write, example_geometry, first_session, held_after, open_with, opening}
+use Rattle.stair_command.specs.Lives.{Ended, Lives, Turn, read_of}
 
 -- the newest turn first: what block 1 reads as, and before it block 0
 abbrev pub reads_after_cut : List ℕ → List ℕ → List Turn

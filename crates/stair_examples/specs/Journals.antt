@@ -10,7 +10,7 @@ use Rattle.stair_member.specs.declared.why.Why.TheVariants.{Gone, Here}
 use Rattle.stair_journal.specs.Gate.{IsOpenWith, ReadsClosed, closed_gate, open_gate}
 use Rattle.stair_journal.specs.Redo.{IsRedo}
 use Rattle.stair_journal.specs.declared.redo.Redo.{Redo}
-use Rattle.stair_return.specs.Misled.{five, naming}
+use Rattle.stair_reinsert.specs.Misled.{five, naming}
 use Rattle.stair_reinsert_examples.specs.Refused.{whole_redo}
 
 -- REDOS AND GATES

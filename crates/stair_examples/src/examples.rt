@@ -2,17 +2,17 @@
 
 ghost use Rattle.stair_examples.specs.Arrays.{
   ExamplesOfEncodes,
-  ExamplesOfIsCalm,
+  ExamplesOfStaysWithinTolerance,
   ExamplesOfIsConsistentUnderReassembly,
   ExamplesOfIsWithinTolerance,
   ExamplesOfRepresents,
 };
 ghost use Rattle.stair_examples.specs.Calls.{
   ExamplesOfGoes,
-  ExamplesOfIsBorneOut,
+  ExamplesOfRefinesProgram,
   ExamplesOfIsRun,
   ExamplesOfIsSafe,
-  ExamplesOfMeans,
+  ExamplesOfExecutes,
 };
 ghost use Rattle.stair_examples.specs.Copies.{ExamplesOfIsOlderCopy};
 ghost use Rattle.stair_examples.specs.Devices.{ExamplesOfCrashMayLeave};
@@ -43,7 +43,7 @@ pub fn array_laws()
     ensures encodes { ExamplesOfEncodes }
     // what may fail, at a moment and in a session
     ensures is_within_tolerance { ExamplesOfIsWithinTolerance }
-    ensures is_calm { ExamplesOfIsCalm }
+    ensures stays_within_tolerance { ExamplesOfStaysWithinTolerance }
     // a rack that is an array in a state, and one that stays so however its media lie
     ensures represents { ExamplesOfRepresents }
     ensures is_consistent_under_reassembly { ExamplesOfIsConsistentUnderReassembly }
@@ -53,10 +53,10 @@ pub fn array_laws()
 
 /// Calls. It does nothing.
 pub fn call_laws()
-    // a story that follows a plan, and that the outside bears out
-    ensures means { ExamplesOfMeans }
-    ensures is_borne_out { ExamplesOfIsBorneOut }
-    // a deed, a run, and a run that a crash cuts
+    // a trace that follows a program, and that the outside bears out
+    ensures means { ExamplesOfExecutes }
+    ensures refines_program { ExamplesOfRefinesProgram }
+    // an item, a run, and a run that a crash cuts
     ensures goes { ExamplesOfGoes }
     ensures is_run { ExamplesOfIsRun }
     ensures is_safe { ExamplesOfIsSafe }

@@ -7,7 +7,7 @@ ghost use Rattle.stair_filerack.specs.Files.{GivesSector, IsHeld, IsNear, ReadsF
 ghost use Rattle.stair_filerack.specs.Slot.{nothing_read, released, missed_at};
 
 use crate::full::read_full;
-use stair_image::{PAYLOAD_BYTES, SECTOR_BYTES};
+use stair_image::{PAYLOAD_BYTES, SEALED_SECTOR};
 use stair_tags::are_sealed;
 use std::io::Read;
 use std::marker::Model;
@@ -15,7 +15,7 @@ use std::marker::Model;
 /// How many sectors are read at once.
 pub(crate) const SECTORS: usize = 8;
 
-const BYTES: usize = SECTORS * SECTOR_BYTES;
+const BYTES: usize = SECTORS * SEALED_SECTOR;
 
 /// Eight sectors of an image file that were read at once, and which of them are sealed. The one that answered last and those
 /// after it are held, and answer later reads.
@@ -101,7 +101,7 @@ impl Ahead {
             return None;
         }
         let mut payload = [0; PAYLOAD_BYTES];
-        let start = SECTOR_BYTES * place;
+        let start = SEALED_SECTOR * place;
         payload.copy_from_slice(&self.bytes[start..start + PAYLOAD_BYTES]);
         Some(payload)
     }

@@ -15,7 +15,7 @@ use crate::full::read_full;
 use crate::lock::{Lock, Locking};
 use crate::pending::Pending;
 use crate::reason::{Reason, is_bad_sector, keep_first};
-use stair_image::{SECTOR_BYTES, Seals, unseal};
+use stair_image::{SEALED_SECTOR, Seals, unseal};
 use stair_rack::{Got, Reply};
 use std::alloc::{AllocError, Global};
 use std::fs::{Files, Metadata, OpenFile, OpenOptions};
@@ -178,7 +178,7 @@ pub(crate) fn counted<T: Seek + Drop>(mut file: T) -> io::Result<Found<T>>
 fn sectors_of(bytes: u64) -> u32
     ensures { result ≡ sectors_in bytes }
 {
-    u32::try_from(bytes / SECTOR_BYTES as u64).unwrap_or(u32::MAX)
+    u32::try_from(bytes / SEALED_SECTOR as u64).unwrap_or(u32::MAX)
 }
 
 /// Reads a sector of an open file of so many sectors, once all that is pending went to it. A file that fails is closed, and the
@@ -200,7 +200,7 @@ pub(crate) fn read<T: Read + Write + Seek + Drop>(
         (result ≡ Got.Bad) × (file.new ≡ file.old) }
     ensures closed { result ≡ Got.Gone → file.new ≡ None }
     ensures kept { KeepsReason reason.old reason.new }
-    ensures told { result ≡ Got.Gone → IsSome file.old → IsSome reason.new }
+    ensures does { result ≡ Got.Gone → IsSome file.old → IsSome reason.new }
     ensures untold { result ≢ Got.Gone → reason.new ≡ reason.old }
 {
     let Some(image) = &mut file.image else {
@@ -234,7 +234,7 @@ fn read_after<T: Read + Write + Seek>(
         (held_as pending.old image.old) (held_as pending.new image.new) }
     ensures unread { result ≢ Got.Good → into.new ≡ into.old }
     ensures kept { KeepsReason reason.old reason.new }
-    ensures told { result ≡ Got.Gone → IsSome reason.new }
+    ensures does { result ≡ Got.Gone → IsSome reason.new }
     ensures untold { result ≢ Got.Gone → reason.new ≡ reason.old }
 {
     if let Err(error) = pending.put_out(&mut image.file) {
@@ -253,7 +253,7 @@ fn got_of(
     ensures got { IsGotOf outcome result }
     ensures buffer { into.new ≡ buffer_after outcome into.old }
     ensures kept { KeepsReason reason.old reason.new }
-    ensures told { result ≡ Got.Gone → IsSome reason.new }
+    ensures does { result ≡ Got.Gone → IsSome reason.new }
     ensures first { IfErr outcome (λ error. (¬ IsBadSector error) →
         reason.new ≡ first_reason reason.old (Reason.Failed error)) }
     ensures untold { result ≢ Got.Gone → reason.new ≡ reason.old }
@@ -291,7 +291,7 @@ pub(crate) fn write<T: Write + Seek + Drop>(
         (result ≡ Reply.Gone) × (file.new ≡ file.old) × (reason.new ≡ reason.old) }
     ensures after { file.new ≡ file_after_write result sectors sector file.new file.old }
     ensures kept { KeepsReason reason.old reason.new }
-    ensures told { result ≡ Reply.Gone → IsSome file.old → sector < sectors → IsSome reason.new }
+    ensures does { result ≡ Reply.Gone → IsSome file.old → sector < sectors → IsSome reason.new }
     ensures untold { result ≡ Reply.Done → reason.new ≡ reason.old }
 {
     let Some(image) = &mut file.image else {
@@ -320,7 +320,7 @@ pub(crate) fn sync<T: Write + OpenFile + Drop>(
     ensures unattached { file.old ≡ None → (result ≡ Reply.Gone) × (reason.new ≡ reason.old) }
     ensures closed { result ≡ Reply.Gone → file.new ≡ None }
     ensures kept { KeepsReason reason.old reason.new }
-    ensures told { result ≡ Reply.Gone → IsSome file.old → IsSome reason.new }
+    ensures does { result ≡ Reply.Gone → IsSome file.old → IsSome reason.new }
     ensures untold { result ≡ Reply.Done → reason.new ≡ reason.old }
 {
     let Some(image) = &mut file.image else {
@@ -360,7 +360,7 @@ fn put_out_all<T: Write>(image: &mut Opened<T>, pending: &mut Pending) -> Result
 fn reply_of(outcome: Result<(), Reason>, reason: &mut Option<Reason>) -> Reply
     ensures reply { result ≡ reply_of outcome }
     ensures kept { KeepsReason reason.old reason.new }
-    ensures told { result ≡ Reply.Gone → IsSome reason.new }
+    ensures does { result ≡ Reply.Gone → IsSome reason.new }
     ensures first { IfErr outcome (λ error. reason.new ≡ first_reason reason.old error) }
     ensures untold { result ≡ Reply.Done → reason.new ≡ reason.old }
 {
@@ -541,7 +541,7 @@ fn seek_to<T: Seek>(file: &mut T, sector: u32) -> io::Result<()>
         (λ _. SeeksSector sector (T.stream_position file.old) (T.stream_position file.new))
         (λ _. StaysAt (T.stream_position file.old) (T.stream_position file.new)) }
 {
-    file.seek(SeekFrom::Start(SECTOR_BYTES as u64 * u64::from(sector)))?;
+    file.seek(SeekFrom::Start(SEALED_SECTOR as u64 * u64::from(sector)))?;
     Ok(())
 }
 
@@ -553,8 +553,8 @@ fn read_here<T: Read>(file: &mut T, sector: u32) -> io::Result<Option<[u8; 512]>
         (sealed sector payload))) }
     ensures failed { OnErr result (ReadsFewer 544 (T.remaining file.old) (T.remaining file.new)) }
 {
-    let mut bytes = [0; SECTOR_BYTES];
-    if read_full(file, &mut bytes)? < SECTOR_BYTES {
+    let mut bytes = [0; SEALED_SECTOR];
+    if read_full(file, &mut bytes)? < SEALED_SECTOR {
         return Ok(None);
     }
     Ok(unseal(u64::from(sector), &bytes))

@@ -3,7 +3,7 @@ ghost use Rattle.std.specs.Prelude.{◌≡◌, ◌↔◌, ◌+◌, ◌++◌, ◌
 ghost use Rattle.std.specs.Io.KnownBytes.{Appends};
 ghost use Rattle.stair_filerack.specs.Slot.{pending_bytes};
 
-use stair_image::SECTOR_BYTES;
+use stair_image::SEALED_SECTOR;
 use std::alloc::{AllocError, Global};
 use std::io;
 use std::io::Write;
@@ -12,7 +12,7 @@ use std::marker::Model;
 /// How many sectors go out together at most: 17 pages of 4 KiB, so a write of them that begins at a page reads none.
 pub(crate) const SECTORS: usize = 128;
 
-const BYTES: usize = SECTORS * SECTOR_BYTES;
+const BYTES: usize = SECTORS * SEALED_SECTOR;
 
 /// Sealed sectors, one after the other, that go to a file in one call of the system.
 #[derive(Drop)]
@@ -45,7 +45,7 @@ impl Pending {
     pub(crate) fn has_room(&self) -> bool
         ensures { IsTrue result ↔ (length self.now + 544 ≤ pending_bytes) }
     {
-        self.bytes.len() + SECTOR_BYTES <= BYTES
+        self.bytes.len() + SEALED_SECTOR <= BYTES
     }
 
     /// Adds a sealed sector after the others.

@@ -147,7 +147,7 @@ impl<T: Read + Write + Seek + OpenFile + Lock + Drop> Slot<T> {
             × (self.new ≡ holding (Some (opened found.file)) found.sectors self.old)) }
         ensures failed { IfErr found (λ _. (result ≡ Reply.Gone)
             × (self.new ≡ attached_as Reply.Gone None 0 self.new.reason self.old)) }
-        ensures told { IfErr found (λ reason. (¬ IsNoFile reason) →
+        ensures does { IfErr found (λ reason. (¬ IsNoFile reason) →
             self.new.reason ≡ first_reason self.old.reason reason) }
         ensures untold { IfErr found (λ reason. IsNoFile reason →
             self.new.reason ≡ self.old.reason) }
@@ -189,7 +189,7 @@ impl<T: Read + Write + Seek + OpenFile + Lock + Drop> Slot<T> {
             (result ≡ Got.Bad) × (self.new ≡ self.old) }
         ensures after { self.new ≡ read_as result self.new.file self.new.reason self.old }
         ensures kept { KeepsReason self.old.reason self.new.reason }
-        ensures told { result ≡ Got.Gone → IsSome self.old.file → IsSome self.new.reason }
+        ensures does { result ≡ Got.Gone → IsSome self.old.file → IsSome self.new.reason }
         ensures count { IsLaterCount self.old.gones self.new.gones }
         ensures gone { result ≡ Got.Gone → Rose self.old.gones self.new.gones }
     {
@@ -218,7 +218,7 @@ impl<T: Read + Write + Seek + OpenFile + Lock + Drop> Slot<T> {
             (result ≡ Reply.Gone) × (self.new ≡ gone_once_more self.old) }
         ensures after { self.new ≡ written_as sector result self.new.file self.new.reason self.old }
         ensures kept { KeepsReason self.old.reason self.new.reason }
-        ensures told { result ≡ Reply.Gone → IsSome self.old.file → sector < self.old.sectors →
+        ensures does { result ≡ Reply.Gone → IsSome self.old.file → sector < self.old.sectors →
             IsSome self.new.reason }
         ensures count { IsLaterCount self.old.gones self.new.gones }
         ensures gone { result ≡ Reply.Gone → Rose self.old.gones self.new.gones }
@@ -240,7 +240,7 @@ impl<T: Read + Write + Seek + OpenFile + Lock + Drop> Slot<T> {
             (result ≡ Reply.Gone) × (self.new ≡ gone_once_more self.old) }
         ensures after { self.new ≡ synced_as result self.new.file self.new.reason self.old }
         ensures kept { KeepsReason self.old.reason self.new.reason }
-        ensures told { result ≡ Reply.Gone → IsSome self.old.file → IsSome self.new.reason }
+        ensures does { result ≡ Reply.Gone → IsSome self.old.file → IsSome self.new.reason }
         ensures count { IsLaterCount self.old.gones self.new.gones }
         ensures gone { result ≡ Reply.Gone → Rose self.old.gones self.new.gones }
     {

@@ -2,7 +2,7 @@
 ghost use Rattle.std.specs.Prelude.{◌≡◌};
 ghost use Rattle.stair_image.specs.Seal.{sealed};
 
-use crate::{PAYLOAD_BYTES, SECTOR_BYTES, seal};
+use crate::{PAYLOAD_BYTES, SEALED_SECTOR, seal};
 use std::marker::Model;
 
 /// A sealed sector that is sealed once for all writes of the same payload under the same number, as where each device of an

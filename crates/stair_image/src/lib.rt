@@ -21,7 +21,7 @@ use sha2::{Digest, Sha256};
 pub const PAYLOAD_BYTES: usize = 512;
 
 /// The bytes of a sealed sector: its payload, and then a tag of 32 bytes.
-pub const SECTOR_BYTES: usize = 544;
+pub const SEALED_SECTOR: usize = 544;
 
 // The tag of this payload in the sector of this number.
 fn tag(number: u64, payload: &[u8; 512]) -> [u8; 32]
@@ -37,7 +37,7 @@ fn tag(number: u64, payload: &[u8; 512]) -> [u8; 32]
 pub fn seal(number: u64, payload: &[u8; 512]) -> [u8; 544]
     ensures { result ≡ sealed number payload.now }
 {
-    let mut sector = [0; SECTOR_BYTES];
+    let mut sector = [0; SEALED_SECTOR];
     sector[..PAYLOAD_BYTES].copy_from_slice(payload);
     sector[PAYLOAD_BYTES..].copy_from_slice(&tag(number, payload));
     sector

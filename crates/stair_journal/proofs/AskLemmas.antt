@@ -7,13 +7,13 @@ use Rattle.stair_rack.specs.History.{Happening, Read}
 use Rattle.stair_rack.specs.RackCounts.{NoneFalls, RisesAtMost}
 use Rattle.stair_rack.specs.Reading.{EachBelow, IsReadOf}
 use Rattle.stair_rack.specs.Sector.{Damaged, Good}
-use Rattle.stair_rack.specs.Telling.{IsGone, IsReading, Telling, telling}
+use Rattle.stair_rack.specs.RackState.{IsGone, IsReading, RackState, rack_state}
 use Rattle.stair_rack.specs.declared.rack.Got.{Got}
 use Rattle.stair_rack.proofs.GoneLemmas.{is_gone_wider}
 use Rattle.stair_rack.proofs.MomentLemmas.{ran_join, ran_none}
 use Rattle.stair_rack.proofs.PassCounts.{rises_more, rises_none, rises_within}
 use Rattle.stair_rack.proofs.ReadRuns.{read_ran, reads_beside, reads_within}
-use Rattle.stair_rack.proofs.TellingLemmas.{later_called, later_join, later_none, reading_wider}
+use Rattle.stair_rack.proofs.RackStateLemmas.{later_called, later_join, later_none, reading_wider}
 use Rattle.stair_journal.specs.BodySteps.{Asks, Fails, Gives}
 use Rattle.stair_journal.specs.Reads.{PassesSlot, asking}
 use Rattle.stair_journal.proofs.LiveCounts.{live_below, live_next, live_none, live_within}
@@ -24,7 +24,7 @@ use Rattle.stair_journal.proofs.TurnLemmas.{each_more}
 module _ (live gone : Slots) (j k : ℕ) (honest : Bool) (old new : List Happening) (bads bads' : ℕ) (gones gones' : ℕ → ℕ) (answer : Got)
     (on : HasSlot live j) (told : IsTrue honest → Calls old new j (Read k answer)) (counts : NoneFalls bads bads' gones gones') where
   -- the slot was there
-  pub asks_kept : Asks live (λ s. s ≡ k) gone gone (telling honest old bads gones) (telling honest new bads' gones')
+  pub asks_kept : Asks live (λ s. s ≡ k) gone gone (rack_state honest old bads gones) (rack_state honest new bads' gones')
   asks_kept = record {
     more = λ i has. has;
     newly = λ i has. inl has;
@@ -35,8 +35,8 @@ module _ (live gone : Slots) (j k : ℕ) (honest : Bool) (old new : List Happeni
 
   -- it was gone
   pub asks_lost : (gone' : Slots) → IsSlotSet gone' → ((i : ℕ) → HasSlot gone' i ↔ (HasSlot gone i ⊎ (i ≡ j)))
-      → IsGone j (telling honest old bads gones) (telling honest new bads' gones')
-      → Asks live (λ s. s ≡ k) gone gone' (telling honest old bads gones) (telling honest new bads' gones')
+      → IsGone j (rack_state honest old bads gones) (rack_state honest new bads' gones')
+      → Asks live (λ s. s ≡ k) gone gone' (rack_state honest old bads gones) (rack_state honest new bads' gones')
   asks_lost gone' formed added lost = record {
     more = λ i has. (added i).1 (inl has);
     newly = λ i has.
@@ -44,7 +44,7 @@ module _ (live gone : Slots) (j k : ℕ) (honest : Bool) (old new : List Happeni
           | inl was ↦ inl was
           | inr is ↦
               inr
-              (subst (HasSlot live) (sym is) on, subst (λ s. IsGone s (telling honest old bads gones) (telling honest new bads' gones')) (sym is) lost)
+              (subst (HasSlot live) (sym is) on, subst (λ s. IsGone s (rack_state honest old bads gones) (rack_state honest new bads' gones')) (sym is) lost)
         ];
     formed = λ _. formed;
     later = asks_kept.later;
@@ -53,7 +53,7 @@ module _ (live gone : Slots) (j k : ℕ) (honest : Bool) (old new : List Happeni
 
 -- LONGER STRETCHES
 
-pub asks_none : (live : Slots) (sectors : ℕ → Type 0) (gone : Slots) (now : Telling) → Asks live sectors gone gone now now
+pub asks_none : (live : Slots) (sectors : ℕ → Type 0) (gone : Slots) (now : RackState) → Asks live sectors gone gone now now
 asks_none live sectors gone now = record {
   more = λ j has. has;
   newly = λ j has. inl has;
@@ -62,7 +62,7 @@ asks_none live sectors gone now = record {
   ran = λ honest. ran_none now.history;
 }
 
-module _ (live : Slots) (sectors sectors' : ℕ → Type 0) (gone gone' gone'' : Slots) (old mid new : Telling)
+module _ (live : Slots) (sectors sectors' : ℕ → Type 0) (gone gone' gone'' : Slots) (old mid new : RackState)
     (first : Asks live sectors gone gone' old mid) (second : Asks live sectors' gone' gone'' mid new) where
   -- what a slot is found gone for lasts
   gone_on : (j : ℕ) → IsGone j old mid → IsGone j old new
@@ -104,14 +104,14 @@ module _ (live : Slots) (sectors sectors' : ℕ → Type 0) (gone gone' gone'' :
 -- ALL SLOTS
 
 -- The slots below i were asked, and none gave the sector.
-pub record NoneGives (live : Slots) (k i : ℕ) (gone gone' : Slots) (old now : Telling) (count count' : Option ℕ) : Type 0 where
+pub record NoneGives (live : Slots) (k i : ℕ) (gone gone' : Slots) (old now : RackState) (count count' : Option ℕ) : Type 0 where
   pub asks : Asks live (λ s. s ≡ k) gone gone' old now
   pub none : (j : ℕ) → j < i → HasSlot live j → Fails gone' old now j k
   pub formed : 0 < i → IsSlotSet live
   pub in_turn : IsTrue now.honest → EachBelow (PassesSlot live k) i (asking gone old.history) (asking gone' now.history)
   pub reads : RisesAtMost (live_below live i) count count'
 
-pub none_asked : (live : Slots) (k : ℕ) (gone : Slots) (now : Telling) (count : Option ℕ) → NoneGives live k 0 gone gone now now count count
+pub none_asked : (live : Slots) (k : ℕ) (gone : Slots) (now : RackState) (count : Option ℕ) → NoneGives live k 0 gone gone now now count count
 none_asked live k gone now count = record {
   asks = asks_none live (λ s. s ≡ k) gone now;
   none = λ j below. absurd (omega arith);
@@ -120,7 +120,7 @@ none_asked live k gone now count = record {
   reads = subst (λ n. RisesAtMost n count count) (sym (live_none live)) (rises_none count);
 }
 
-module _ (live : Slots) (k i : ℕ) (gone gone' gone'' : Slots) (old mid new : Telling) (count count' count'' : Option ℕ)
+module _ (live : Slots) (k i : ℕ) (gone gone' gone'' : Slots) (old mid new : RackState) (count count' count'' : Option ℕ)
     (before : NoneGives live k i gone gone' old mid count count') (ask : Asks live (λ s. s ≡ k) gone' gone'' mid new) (formed : IsSlotSet live)
     (reads : RisesAtMost (if has_slot live i then 1 else 0) count' count'') where
   pub asks_more : Asks live (λ s. s ≡ k) gone gone'' old new

@@ -17,9 +17,9 @@ use Rattle.stair_model.proofs.SetLaws.{has_slot-none, same_slots, slot_count_non
 use Rattle.stair_model.proofs.StripeLaws.{cell-with_cell_other}
 use Rattle.stair_rack.specs.RackCounts.{RisesAtMost}
 use Rattle.stair_rack.specs.Sector.{Good}
-use Rattle.stair_rack.specs.Telling.{IsGone, IsReading}
+use Rattle.stair_rack.specs.RackState.{IsGone, IsReading}
 use Rattle.stair_rack.proofs.PassCounts.{rises_more, rises_none}
-use Rattle.stair_rack.proofs.TellingLemmas.{later_none, reading_wider}
+use Rattle.stair_rack.proofs.RackStateLemmas.{later_none, reading_wider}
 use Rattle.stair_journal.specs.BodySteps.{Asks, Fails, Gives, AllSoFar, AreCellsRead, AsksBefore, FirstSoFar, IsBelow, IsCellGiven, IsCellUngiven, IsFirst, IsReadTo, ReadsCell, Standing, asking_of, cells_before}
 use Rattle.stair_journal.specs.Bodies.{AllGiven, IsBodySector, IsFirstUngiven, ReadsBody, UngivenFirst}
 use Rattle.stair_journal.specs.Reads.{PassesAll, AsksCell, AsksFor, AsksInTurn, AsksRow, AsksUpTo, Given, IsUnreadUpTo, NotRedone, Redone, Ungiven, asking}
@@ -138,12 +138,12 @@ put_same s row chunk bytes formed row_in chunk_in =
 
 module _ (g : Geometry) (live : Slots) (row chunk : ℕ) (row_in : row < g.r) (chunk_in : chunk < g.n) (old new : Standing)
     (shape : IsStripeOf g old.into) (k : ℕ) (at : k ≡ body_sector g row chunk)
-    (asks : Asks live (λ s. s ≡ k) old.body.gone new.body.gone old.telling new.telling) (reads : RisesAtMost (slot_count live) old.reads new.reads) where
-  asks_here : Asks live (λ s. s ≡ body_sector g row chunk) old.body.gone new.body.gone old.telling new.telling
-  asks_here = subst (λ n. Asks live (λ s. s ≡ n) old.body.gone new.body.gone old.telling new.telling) at asks
+    (asks : Asks live (λ s. s ≡ k) old.body.gone new.body.gone old.rack_state new.rack_state) (reads : RisesAtMost (slot_count live) old.reads new.reads) where
+  asks_here : Asks live (λ s. s ≡ body_sector g row chunk) old.body.gone new.body.gone old.rack_state new.rack_state
+  asks_here = subst (λ n. Asks live (λ s. s ≡ n) old.body.gone new.body.gone old.rack_state new.rack_state) at asks
 
-  pub cell_given : (bytes : List ℕ) → Gives live k new.body.gone bytes old.telling new.telling
-      → (IsTrue new.telling.honest → AsksUpTo live k bytes (asking_of old) (asking_of new)) → new.into ≡ with_cell old.into row chunk bytes
+  pub cell_given : (bytes : List ℕ) → Gives live k new.body.gone bytes old.rack_state new.rack_state
+      → (IsTrue new.rack_state.honest → AsksUpTo live k bytes (asking_of old) (asking_of new)) → new.into ≡ with_cell old.into row chunk bytes
       → IsWellFormed new.into → new.body.unread ≡ old.body.unread → ReadsCell g live row chunk old new
   cell_given bytes gives in_turn is formed unread = record {
     asks = asks_here;
@@ -166,25 +166,25 @@ module _ (g : Geometry) (live : Slots) (row chunk : ℕ) (row_in : row < g.r) (c
           ap (λ (s : Stripe). cell s row chunk) is
           ∙ put_same old.into row chunk bytes (subst IsWellFormed is formed) (omega (arith, shape.rows)) (omega (arith, shape.chunks))
 
-      here : Gives live (body_sector g row chunk) new.body.gone bytes old.telling new.telling
-      here = subst (λ n. Gives live n new.body.gone bytes old.telling new.telling) at gives
+      here : Gives live (body_sector g row chunk) new.body.gone bytes old.rack_state new.rack_state
+      here = subst (λ n. Gives live n new.body.gone bytes old.rack_state new.rack_state) at gives
 
       given : IsCellGiven g live old new row chunk
       given = record {
         slot = here.slot;
         live_slot = here.live_slot;
-        read = subst (λ b. IsReading here.slot (body_sector g row chunk) old.telling new.telling (Good b)) (sym same) here.read;
+        read = subst (λ b. IsReading here.slot (body_sector g row chunk) old.rack_state new.rack_state (Good b)) (sym same) here.read;
         lower = here.lower;
       }
 
-  pub cell_ungiven : ((j : ℕ) → HasSlot live j → Fails new.body.gone old.telling new.telling j k)
-      → (IsTrue new.telling.honest → PassesAll live k (asking_of old) (asking_of new)) → new.into ≡ old.into
+  pub cell_ungiven : ((j : ℕ) → HasSlot live j → Fails new.body.gone old.rack_state new.rack_state j k)
+      → (IsTrue new.rack_state.honest → PassesAll live k (asking_of old) (asking_of new)) → new.into ≡ old.into
       → new.body.unread ≡ Some (unwrap_or old.body.unread k) → ReadsCell g live row chunk old new
   cell_ungiven none in_turn is unread = record {
     asks = asks_here;
     told = inr (record {
       ungiven = record {
-        none = λ j on. subst (Fails new.body.gone old.telling new.telling j) at (none j on);
+        none = λ j on. subst (Fails new.body.gone old.rack_state new.rack_state j) at (none j on);
         left = ap (λ (s : Stripe). cell s row chunk) is;
       };
       unread = unread ∙ ap (λ n. Some (unwrap_or old.body.unread n)) at;
@@ -269,18 +269,18 @@ module _ (g : Geometry) (live : Slots) (redo : Redo) (of : IsRedo g redo) (row c
     given_on i c on given = record {
       slot = given.slot;
       live_slot = given.live_slot;
-      read = subst (λ bytes. IsReading given.slot (body_sector g i c) start.telling new.telling (Good bytes)) (sym (stays i c on))
-          (reading_wider start.telling start.telling old.telling new.telling (later_none start.telling) before.asks.later.honest
+      read = subst (λ bytes. IsReading given.slot (body_sector g i c) start.rack_state new.rack_state (Good bytes)) (sym (stays i c on))
+          (reading_wider start.rack_state start.rack_state old.rack_state new.rack_state (later_none start.rack_state) before.asks.later.honest
           before.asks.later.counts reading.asks.later given.slot (body_sector g i c) (Good (cell old.into i c)) given.read);
       lower = λ j less on_live.
-          fails_on live (IsBodySector g redo) one start.body.gone old.body.gone new.body.gone start.telling old.telling new.telling before.asks
+          fails_on live (IsBodySector g redo) one start.body.gone old.body.gone new.body.gone start.rack_state old.rack_state new.rack_state before.asks
           reading.asks j (body_sector g i c) (given.lower j less on_live);
     }
 
     ungiven_on : (i c : ℕ) → some i c → IsCellUngiven g live start old i c → IsCellUngiven g live start new i c
     ungiven_on i c on ungiven = record {
       none = λ j on_live.
-          fails_on live (IsBodySector g redo) one start.body.gone old.body.gone new.body.gone start.telling old.telling new.telling before.asks
+          fails_on live (IsBodySector g redo) one start.body.gone old.body.gone new.body.gone start.rack_state old.rack_state new.rack_state before.asks
           reading.asks j (body_sector g i c) (ungiven.none j on_live);
       left = stays i c on ∙ ungiven.left;
     }
@@ -289,17 +289,17 @@ module _ (g : Geometry) (live : Slots) (redo : Redo) (of : IsRedo g redo) (row c
     given_now given = record {
       slot = given.slot;
       live_slot = given.live_slot;
-      read = reading_wider start.telling old.telling new.telling new.telling before.asks.later reading.asks.later.honest
-          reading.asks.later.counts (later_none new.telling) given.slot (body_sector g row chunk) (Good (cell new.into row chunk)) given.read;
+      read = reading_wider start.rack_state old.rack_state new.rack_state new.rack_state before.asks.later reading.asks.later.honest
+          reading.asks.later.counts (later_none new.rack_state) given.slot (body_sector g row chunk) (Good (cell new.into row chunk)) given.read;
       lower = λ j less on_live.
-          fails_since live (IsBodySector g redo) one start.body.gone old.body.gone new.body.gone start.telling old.telling new.telling before.asks
+          fails_since live (IsBodySector g redo) one start.body.gone old.body.gone new.body.gone start.rack_state old.rack_state new.rack_state before.asks
           reading.asks j (body_sector g row chunk) (given.lower j less on_live);
     }
 
     ungiven_now : IsCellUngiven g live old new row chunk → IsCellUngiven g live start new row chunk
     ungiven_now ungiven = record {
       none = λ j on_live.
-          fails_since live (IsBodySector g redo) one start.body.gone old.body.gone new.body.gone start.telling old.telling new.telling before.asks
+          fails_since live (IsBodySector g redo) one start.body.gone old.body.gone new.body.gone start.rack_state old.rack_state new.rack_state before.asks
           reading.asks j (body_sector g row chunk) (ungiven.none j on_live);
       left = ungiven.left ∙ before.rest row chunk row_in chunk_in not_yet;
     }
@@ -348,7 +348,7 @@ module _ (g : Geometry) (live : Slots) (redo : Redo) (of : IsRedo g redo) (row c
         ]
 
     -- the calls for this cell
-    asks_now : IsTrue new.telling.honest → AsksFor g live redo new.body.unread start.into new.into row chunk (asking_of old) (asking_of new)
+    asks_now : IsTrue new.rack_state.honest → AsksFor g live redo new.body.unread start.into new.into row chunk (asking_of old) (asking_of new)
     asks_now honest =
         elim reading.told [
           | inl given ↦
@@ -365,7 +365,7 @@ module _ (g : Geometry) (live : Slots) (redo : Redo) (of : IsRedo g redo) (row c
     next : (new.body.unread ≡ old.body.unread) ⊎ (new.body.unread ≡ Some (unwrap_or old.body.unread (body_sector g row chunk)))
     next = elim reading.told [ inl given ↦ inl given.unread | inr ungiven ↦ inr ungiven.unread ]
 
-    in_turn_more : IsTrue new.telling.honest → AsksBefore g live redo row (chunk + 1) start new
+    in_turn_more : IsTrue new.rack_state.honest → AsksBefore g live redo row (chunk + 1) start new
     in_turn_more honest =
         let was = reached.in_turn (reading.asks.later.honest ∙ honest) in
         record {
@@ -382,7 +382,7 @@ module _ (g : Geometry) (live : Slots) (redo : Redo) (of : IsRedo g redo) (row c
 
     cells_more : AreCellsRead g live redo (body_sector g row (chunk + 1)) (cells_before redo.cells row (chunk + 1)) start new
     cells_more = record {
-      asks = asks_join live (IsBodySector g redo) one start.body.gone old.body.gone new.body.gone start.telling old.telling new.telling before.asks
+      asks = asks_join live (IsBodySector g redo) one start.body.gone old.body.gone new.body.gone start.rack_state old.rack_state new.rack_state before.asks
           reading.asks (λ k is. record { row = row; slot = chunk; has = has; is = is });
       each = each_read;
       unread = first_more;
@@ -419,7 +419,7 @@ pub none_read : (g : Geometry) (live : Slots) (redo : Redo) (now : Standing) →
     → IsReadTo g live redo 0 0 now now
 none_read g live redo now shape none = record {
   read = record {
-    asks = asks_none live (IsBodySector g redo) now.body.gone now.telling;
+    asks = asks_none live (IsBodySector g redo) now.body.gone now.rack_state;
     each = λ i c on. absurd (nothing i c on);
     unread = subst (IsFirst (IsBelow g redo (body_sector g 0 0)) (IsCellGiven g live now now) (IsCellUngiven g live now now) (body_sector g)) (sym none)
         (AllSoFar (λ i c on. absurd (nothing i c on)));
@@ -451,24 +451,24 @@ module _ (g : Geometry) (live : Slots) (redo : Redo) (start now : Standing) (of 
       (has, omega arith)
 
   first_is : {o : Option ℕ} → IsFirst (IsBelow g redo (body_sector g g.r 0)) (IsCellGiven g live start now) (IsCellUngiven g live start now) (body_sector g) o
-      → IsFirstUngiven g live now.body.gone start.into now.into start.telling now.telling redo o
+      → IsFirstUngiven g live now.body.gone start.into now.into start.rack_state now.rack_state redo o
   first_is (AllSoFar given) = AllGiven (λ i c has. given i c (below i c has))
   first_is (FirstSoFar i c k on at is lower) =
-      subst (λ s. IsFirstUngiven g live now.body.gone start.into now.into start.telling now.telling redo (Some s)) (sym at)
+      subst (λ s. IsFirstUngiven g live now.body.gone start.into now.into start.rack_state now.rack_state redo (Some s)) (sym at)
       (UngivenFirst i c on.0 is (λ a b has less. lower a b (below a b has) less))
 
-  pub all_in_turn : ((j : ℕ) → ¬ HasSlot start.body.gone j) → IsSlotSet start.body.gone → IsTrue now.telling.honest
-      → AsksInTurn g live redo now.body.unread start.into now.into (asking no_slots start.telling.history) (asking_of now)
+  pub all_in_turn : ((j : ℕ) → ¬ HasSlot start.body.gone j) → IsSlotSet start.body.gone → IsTrue now.rack_state.honest
+      → AsksInTurn g live redo now.body.unread start.into now.into (asking no_slots start.rack_state.history) (asking_of now)
   all_in_turn none formed honest =
       let was = reached.in_turn honest in
       let no_row : asking_of now ≡ was.mid = was.cells in
       let nobody : start.body.gone ≡ no_slots = same_slots start.body.gone no_slots formed (length-replicate 32 false)
       (λ j. (λ has. absurd (none j has), λ has. absurd (false≢true (sym (has_slot-none j) ∙ has)))) in
-      subst (λ gone. AsksInTurn g live redo now.body.unread start.into now.into (asking gone start.telling.history) (asking_of now)) nobody
+      subst (λ gone. AsksInTurn g live redo now.body.unread start.into now.into (asking gone start.rack_state.history) (asking_of now)) nobody
       (subst (λ to. AsksInTurn g live redo now.body.unread start.into now.into (asking_of start) to) (sym no_row) was.rows)
 
   pub all_read : ((j : ℕ) → ¬ HasSlot start.body.gone j) → IsSlotSet start.body.gone
-      → ReadsBody g live redo now.body start.into now.into start.telling now.telling
+      → ReadsBody g live redo now.body start.into now.into start.rack_state now.rack_state
   all_read none formed = record {
     each = λ i c has. all.each i c (below i c has);
     unread = first_is all.unread;
@@ -480,11 +480,11 @@ module _ (g : Geometry) (live : Slots) (redo : Redo) (start now : Standing) (of 
     honest = all.asks.later.honest;
     counts = all.asks.later.counts;
     told = λ honest.
-        body_told g live redo now.body.unread start.into now.into (asking no_slots start.telling.history) (asking_of now) (all_in_turn none formed honest);
+        body_told g live redo now.body.unread start.into now.into (asking no_slots start.rack_state.history) (asking_of now) (all_in_turn none formed honest);
     ran = all.asks.ran;
   }
     where
-      newly : (j : ℕ) → HasSlot now.body.gone j → HasSlot live j × IsGone j start.telling now.telling
+      newly : (j : ℕ) → HasSlot now.body.gone j → HasSlot live j × IsGone j start.rack_state now.rack_state
       newly j has = elim (all.asks.newly j has) [ inl was ↦ absurd (none j was) | inr is ↦ is ]
 
   pub all_reads : RisesAtMost (cell_count redo.cells * slot_count live) start.reads now.reads

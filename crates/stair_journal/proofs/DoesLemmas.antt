@@ -8,7 +8,7 @@ use Rattle.stair_rack.specs.History.{Happening, SlotCall, Sync}
 use Rattle.stair_rack.specs.Placed.{EndsPhase, Placed, Writes}
 use Rattle.stair_rack.specs.RackCounts.{NoneFalls}
 use Rattle.stair_rack.specs.Stretch.{WasAnswered}
-use Rattle.stair_rack.specs.Telling.{telling}
+use Rattle.stair_rack.specs.RackState.{rack_state}
 use Rattle.stair_rack.specs.declared.rack.Reply.TheVariants as reply
 use Rattle.stair_rack.proofs.MomentLemmas.{ran_none}
 use Rattle.stair_rack.proofs.PassCounts.{NoneFalls-then, Seen}
@@ -43,7 +43,7 @@ module _ (what : Writes) (to gone all : Slots) (honest : Bool) (old mid : Seen)
         | inr now ↦ kept-Rose (old.gones j) (mid.gones j) (gones j) (before.gone j).not_less (after.gone j).not_less now.1
       ]
 
-  pub does_phase : DoesPhase what to all (telling honest old.history old.bads old.gones) (telling honest new bads gones)
+  pub does_phase : DoesPhase what to all (rack_state honest old.history old.bads old.gones) (rack_state honest new bads gones)
   does_phase = record {
     honest = refl;
     placed = placed;
@@ -62,7 +62,7 @@ pub does_slots : (what : Writes) (to gone all : Slots) (n : ℕ) (honest : Bool)
     → ((j k : ℕ) (bytes : List ℕ) → HasSlot to j → what j k ≡ Some bytes → j < n)
     → ((j : ℕ) → HasSlot all j → HasSlot gone j ⊎ (HasSlot to j × Rose (mid.gones j) (gones j)))
     → NoneFalls mid.bads bads mid.gones gones → IsSlotSet all → (IsTrue honest → EndsPhase to gone all mid.history new)
-    → DoesPhase what to all (telling honest old.history old.bads old.gones) (telling honest new bads gones)
+    → DoesPhase what to all (rack_state honest old.history old.bads old.gones) (rack_state honest new bads gones)
 does_slots what to gone all n honest old mid new bads gones so_far told covered are after formed ended =
     does_phase what to gone all honest old mid new bads gones (λ j has. ((so_far.gone_is j has).0, (so_far.gone_is j has).2)) so_far.counts are after formed
     (λ is. phase_placed so_far covered is (ended is)) (λ is. are_gone_ended (so_far.told is).ran (told is) (ended is))

@@ -14,13 +14,13 @@ use Rattle.stair_rack.specs.History.{Happening, Read, slot_state}
 use Rattle.stair_rack.specs.RackCounts.{NoneFalls, RisesAtMost}
 use Rattle.stair_rack.specs.Reading.{EachBelow, IsReadOf}
 use Rattle.stair_rack.specs.Sector.{Cell, Damaged, Good, content}
-use Rattle.stair_rack.specs.Telling.{IsGone, IsLater, IsReading, Telling, telling}
+use Rattle.stair_rack.specs.RackState.{IsGone, IsLater, IsReading, RackState, rack_state}
 use Rattle.stair_rack.specs.declared.rack.Got.TheVariants as got
 use Rattle.stair_rack.proofs.GoneLemmas.{is_gone_wider}
 use Rattle.stair_rack.proofs.MomentLemmas.{ran_any, ran_join, ran_none}
 use Rattle.stair_rack.proofs.PassCounts.{rises_more, rises_none}
 use Rattle.stair_rack.proofs.ReadRuns.{read_ran, reads_beside, reads_within}
-use Rattle.stair_rack.proofs.TellingLemmas.{later_join, later_none, reading_bad, reading_good, reading_wider}
+use Rattle.stair_rack.proofs.RackStateLemmas.{later_join, later_none, reading_bad, reading_good, reading_wider}
 use Rattle.stair_journal.specs.Gate.{IsOpenWith, ReadsClosed}
 use Rattle.stair_journal.specs.GatesSteps.{IsGateRead, IsNoted, IsReadOnce, IsSeen, IsSeenOpen, first_redo}
 use Rattle.stair_journal.specs.Gates.{IsFirstRedo, IsGateSector, IsOpened, IsRead, NoneOpen, OpenFirst, ReadsGates}
@@ -77,7 +77,7 @@ bad_closed g redo is = let bad = is.good in cc
 module _ (P : Cell → Type 0) (honest : Bool) (old new : List Happening) (bads bads' : ℕ) (gones gones' : ℕ → ℕ) (j : ℕ) where
   pub gate_good : (bytes : List ℕ) → (IsTrue honest → Calls old new j (Read gate_sector got.Good))
       → (IsTrue honest → content ((slot_state new j).sector gate_sector) ≡ Good bytes) → P (Good bytes)
-      → IsGateRead P j (telling honest old bads gones) (telling honest new bads' gones')
+      → IsGateRead P j (rack_state honest old bads gones) (rack_state honest new bads' gones')
   gate_good bytes told good says = record {
     cell = Good bytes;
     read = reading_good honest old new bads bads' gones gones' j gate_sector bytes told good;
@@ -85,7 +85,7 @@ module _ (P : Cell → Type 0) (honest : Bool) (old new : List Happening) (bads 
   }
 
   pub gate_bad : (IsTrue honest → IsHistory old) → (IsTrue honest → Calls old new j (Read gate_sector got.Bad)) → Rose bads bads' → P Damaged
-      → IsGateRead P j (telling honest old bads gones) (telling honest new bads' gones')
+      → IsGateRead P j (rack_state honest old bads gones) (rack_state honest new bads' gones')
   gate_bad began told rose says = record {
     cell = Damaged;
     read = reading_bad honest old new bads bads' gones gones' j gate_sector began told rose;
@@ -165,7 +165,7 @@ abbrev pub IsReadBelow : Slots → Slots → ℕ → ℕ → Type 0
 IsReadBelow live gone i j = (j < i) × IsRead live gone j
 
 -- The gates of the live slots below i were read, and this is known of them.
-pub record AreGatesRead (g : Geometry) (live : Slots) (i : ℕ) (gates : Gates) (old now : Telling) (count count' : Option ℕ) : Type 0 where
+pub record AreGatesRead (g : Geometry) (live : Slots) (i : ℕ) (gates : Gates) (old now : RackState) (count count' : Option ℕ) : Type 0 where
   pub gate : ℕ → Cell
   pub read : (j : ℕ) → IsReadBelow live gates.gone i j → IsReading j gate_sector old now (gate j)
   pub redo : IsFirstRedo g (IsReadBelow live gates.gone i) gate gates.redo
@@ -180,7 +180,7 @@ pub record AreGatesRead (g : Geometry) (live : Slots) (i : ℕ) (gates : Gates) 
   pub in_turn : IsTrue now.honest → EachBelow (ReadsGate live gates.gone) i old.history now.history
   pub reads : RisesAtMost (live_below live i) count count'
 
-pub gates_none : (g : Geometry) (live : Slots) (gates : Gates) (now : Telling) (count : Option ℕ) → gates.redo ≡ None
+pub gates_none : (g : Geometry) (live : Slots) (gates : Gates) (now : RackState) (count : Option ℕ) → gates.redo ≡ None
     → ((j : ℕ) → ¬ HasSlot gates.opened j) → ((j : ℕ) → ¬ HasSlot gates.gone j) → IsSlotSet gates.opened → IsSlotSet gates.gone
     → AreGatesRead g live 0 gates now now count count
 gates_none g live gates now count none unopened present formed formed' = record {
@@ -218,7 +218,7 @@ module _ (live gone gone' : Slots) (i : ℕ) (same : (j : ℕ) → j < i → Has
       elim (read_cases j on) [ inl was ↦ was | inr is ↦ absurd (unread (subst (IsRead live gone') is on.1)) ]
 
 -- what is known of all gates that were read, at a later moment
-module _ (g : Geometry) (live : Slots) (i : ℕ) (gates : Gates) (old now : Telling) (count count' : Option ℕ)
+module _ (g : Geometry) (live : Slots) (i : ℕ) (gates : Gates) (old now : RackState) (count count' : Option ℕ)
     (before : AreGatesRead g live i gates old now count count') where
   -- slot i isn't live
   pub gates_skipped : IsSlotSet live → has_slot live i ≡ false → AreGatesRead g live (i + 1) gates old now count count'
@@ -254,7 +254,7 @@ module _ (g : Geometry) (live : Slots) (i : ℕ) (gates : Gates) (old now : Tell
       only = read_only live gates.gone gates.gone i (λ j below has. has) (λ j has. has) (λ on. false≢true (sym off ∙ on.0))
 
 -- The gate of slot i, which is live, is read.
-module _ (g : Geometry) (limits : IsWithinLimits g) (i : ℕ) (now new : Telling) where
+module _ (g : Geometry) (limits : IsWithinLimits g) (i : ℕ) (now new : RackState) where
   -- the cell that was read
   abbrev seen_cell : (seen : Seen) → IsSeen g i now new seen → Cell
   seen_cell (Open redo) is = is.cell
@@ -276,7 +276,7 @@ module _ (g : Geometry) (limits : IsWithinLimits g) (i : ℕ) (now new : Telling
   open_seen Closed is r there opened = absurd (is.says r opened)
   open_seen Gone is r there opened = absurd (there refl)
 
-module _ (g : Geometry) (limits : IsWithinLimits g) (live : Slots) (i : ℕ) (gates gates' : Gates) (old now new : Telling) (count count' count'' : Option ℕ)
+module _ (g : Geometry) (limits : IsWithinLimits g) (live : Slots) (i : ℕ) (gates gates' : Gates) (old now new : RackState) (count count' count'' : Option ℕ)
     (before : AreGatesRead g live i gates old now count count') (formed : IsSlotSet live) (live_here : HasSlot live i) (seen : Seen)
     (is_seen : IsSeen g i now new seen) (counts : NoneFalls now.bads new.bads now.gones new.gones) (same_honest : now.honest ≡ new.honest)
     (read_once : IsTrue new.honest → IsReadOnce i seen now.history new.history) (reads : RisesAtMost 1 count' count'')
@@ -448,7 +448,7 @@ module _ (g : Geometry) (limits : IsWithinLimits g) (live : Slots) (i : ℕ) (ga
 
 -- ALL GATES
 
-pub gates_all : (g : Geometry) (live : Slots) (gates : Gates) (old now : Telling) (count count' : Option ℕ)
+pub gates_all : (g : Geometry) (live : Slots) (gates : Gates) (old now : RackState) (count count' : Option ℕ)
     → AreGatesRead g live 32 gates old now count count' → ReadsGates g live gates old now
 gates_all g live gates old now count count' all = record {
   gate = all.gate;

@@ -11,7 +11,7 @@ use Rattle.stair_rack.specs.History.{Read}
 use Rattle.stair_rack.specs.Reading.{IsReadOf}
 use Rattle.stair_rack.specs.Sector.{Good, Damaged}
 use Rattle.stair_rack.specs.Stretch.{WasAnswered}
-use Rattle.stair_rack.specs.Telling.{Telling, IsGone, IsReading}
+use Rattle.stair_rack.specs.RackState.{RackState, IsGone, IsReading}
 use Rattle.stair_rack.specs.declared.rack.Got.TheVariants as got
 use Rattle.stair_journal.specs.declared.body.Body.{Body}
 use Rattle.stair_journal.specs.declared.redo.Redo.{Redo}
@@ -23,7 +23,7 @@ pub record IsBodySector (g : Geometry) (redo : Redo) (k : ℕ) : Type 0 where
   pub has : HasCell redo.cells row slot
   pub is : k ≡ body_sector g row slot
 
-module _ (g : Geometry) (live gone : Slots) (was into : Stripe) (old new : Telling) where
+module _ (g : Geometry) (live gone : Slots) (was into : Stripe) (old new : RackState) where
   -- live slot j doesn't give this sector: it was gone, or the sector read as bad
   abbrev pub GivesNot : ℕ → ℕ → Type 0
   GivesNot j k = HasSlot gone j ⊎ IsReading j k old new Damaged
@@ -49,7 +49,7 @@ module _ (g : Geometry) (live gone : Slots) (was into : Stripe) (old new : Telli
 
 -- What reading the body of a redo does.
 pub record ReadsBody (g : Geometry) (live : Slots) (redo : Redo) (body : Body)
-    (was into : Stripe) (old new : Telling) : Type 0 where
+    (was into : Stripe) (old new : RackState) : Type 0 where
   pub honest : old.honest ≡ new.honest
   pub each : (i c : ℕ) → HasCell redo.cells i c
       → IsGiven g live body.gone was into old new i c

@@ -9,7 +9,7 @@ use Rattle.stair_model.specs.Stripe.{Stripe, IsStripeOf, cell}
 use Rattle.stair_model.specs.Sum.{sum_below}
 use Rattle.stair_rack.specs.RackCounts.{RisesAtMost}
 use Rattle.stair_rack.specs.Reading.{EachBelow, IsReadOf}
-use Rattle.stair_rack.specs.Telling.{Telling, IsGone, IsLater, IsReading}
+use Rattle.stair_rack.specs.RackState.{RackState, IsGone, IsLater, IsReading}
 use Rattle.stair_journal.specs.Bodies.{IsBodySector, IsGiven, IsUngiven}
 use Rattle.stair_journal.specs.Reads.{Asking, asking, PassesAll, AsksCell, AsksRow, AsksUpTo, AnswersGood, PassesSlot}
 use Rattle.stair_journal.specs.declared.body.Body.{Body}
@@ -22,7 +22,7 @@ use Rattle.stair_journal.specs.declared.body.Found.TheVariants.{Here, Nowhere}
 -- ASKING
 
 -- Live slots were asked for some of these sectors, and the set of the slots that were gone grew.
-pub record Asks (live : Slots) (sectors : ℕ → Type 0) (gone gone' : Slots) (old new : Telling)
+pub record Asks (live : Slots) (sectors : ℕ → Type 0) (gone gone' : Slots) (old new : RackState)
     : Type 0 where
   pub more : (j : ℕ) → HasSlot gone j → HasSlot gone' j
   pub newly : (j : ℕ) → HasSlot gone' j → HasSlot gone j ⊎ (HasSlot live j × IsGone j old new)
@@ -31,16 +31,16 @@ pub record Asks (live : Slots) (sectors : ℕ → Type 0) (gone gone' : Slots) (
   pub ran : IsTrue new.honest → Ran (IsReadOf (HasSlot live) sectors) old.history new.history
 
 -- slot j doesn't give this sector: it was gone, or the sector read as bad
-abbrev pub Fails : Slots → Telling → Telling → ℕ → ℕ → Type 0
+abbrev pub Fails : Slots → RackState → RackState → ℕ → ℕ → Type 0
 Fails gone old new j k = HasSlot gone j ⊎ IsReading j k old new Damaged
 
 -- what slot j, where it is live, was found to have of this sector
-abbrev pub IsAnswer : Slots → ℕ → ℕ → Slots → List ℕ → Telling → Telling → Found → Type 0
+abbrev pub IsAnswer : Slots → ℕ → ℕ → Slots → List ℕ → RackState → RackState → Found → Type 0
 IsAnswer live j k gone bytes old new Here = HasSlot live j × IsReading j k old new (Good bytes)
 IsAnswer live j k gone bytes old new Nowhere = HasSlot live j → Fails gone old new j k
 
 -- the lowest live slot that gives this sector gave these bytes
-pub record Gives (live : Slots) (k : ℕ) (gone : Slots) (bytes : List ℕ) (old new : Telling)
+pub record Gives (live : Slots) (k : ℕ) (gone : Slots) (bytes : List ℕ) (old new : RackState)
     : Type 0 where
   pub slot : ℕ
   pub live_slot : HasSlot live slot
@@ -48,7 +48,7 @@ pub record Gives (live : Slots) (k : ℕ) (gone : Slots) (bytes : List ℕ) (old
   pub lower : (j : ℕ) → j < slot → HasSlot live j → Fails gone old new j k
 
 -- where this sector was found in the live slots
-abbrev pub IsFound : Slots → ℕ → Slots → List ℕ → Telling → Telling → Found → Type 0
+abbrev pub IsFound : Slots → ℕ → Slots → List ℕ → RackState → RackState → Found → Type 0
 IsFound live k gone bytes old new Here = Gives live k gone bytes old new
 IsFound live k gone bytes old new Nowhere = (j : ℕ) → HasSlot live j → Fails gone old new j k
 
@@ -68,44 +68,44 @@ AsksSlots live k bytes old new Nowhere = PassesAll live k old new
 pub record Standing : Type 0 where
   pub body : Body
   pub into : Stripe
-  pub telling : Telling
+  pub rack_state : RackState
   pub reads : Option ℕ
 
-abbrev pub standing : Body → Stripe → Telling → Option ℕ → Standing
-standing body into telling reads =
-    record { body = body; into = into; telling = telling; reads = reads }
+abbrev pub standing : Body → Stripe → RackState → Option ℕ → Standing
+standing body into rack_state reads =
+    record { body = body; into = into; rack_state = rack_state; reads = reads }
 
 abbrev pub asking_of : Standing → Asking
-asking_of now = asking now.body.gone now.telling.history
+asking_of now = asking now.body.gone now.rack_state.history
 
 module _ (g : Geometry) (live : Slots) (old new : Standing) where
   -- cell (i, c) was given
   abbrev pub IsCellGiven : ℕ → ℕ → Type 0
-  IsCellGiven = IsGiven g live new.body.gone old.into new.into old.telling new.telling
+  IsCellGiven = IsGiven g live new.body.gone old.into new.into old.rack_state new.rack_state
 
   -- cell (i, c) was given by no live slot
   abbrev pub IsCellUngiven : ℕ → ℕ → Type 0
-  IsCellUngiven = IsUngiven g live new.body.gone old.into new.into old.telling new.telling
+  IsCellUngiven = IsUngiven g live new.body.gone old.into new.into old.rack_state new.rack_state
 
   -- a slot was found that gives cell (i, c)
   pub record GivesCell (i c : ℕ) : Type 0 where
     pub given : IsCellGiven i c
     pub unread : new.body.unread ≡ old.body.unread
-    pub in_turn : IsTrue new.telling.honest
+    pub in_turn : IsTrue new.rack_state.honest
         → AsksUpTo live (body_sector g i c) (cell new.into i c) (asking_of old) (asking_of new)
 
   -- none was
   pub record LeavesCell (i c : ℕ) : Type 0 where
     pub ungiven : IsCellUngiven i c
     pub unread : new.body.unread ≡ Some (unwrap_or old.body.unread (body_sector g i c))
-    pub in_turn : IsTrue new.telling.honest
+    pub in_turn : IsTrue new.rack_state.honest
         → PassesAll live (body_sector g i c) (asking_of old) (asking_of new)
 
 -- What reading cell (i, c) does.
 pub record ReadsCell (g : Geometry) (live : Slots) (i c : ℕ) (old new : Standing)
     : Type 0 where
   pub asks : Asks live (λ k. k ≡ body_sector g i c) old.body.gone new.body.gone
-      old.telling new.telling
+      old.rack_state new.rack_state
   pub told : GivesCell g live old new i c ⊎ LeavesCell g live old new i c
   -- every other cell is left as it was
   pub rest : (a b : ℕ) → a < g.r → b < g.n → ¬ ((a ≡ i) × (b ≡ c))
@@ -133,7 +133,7 @@ IsBelow g redo k i c = HasCell redo.cells i c × (body_sector g i c < k)
 -- The cells of the redo whose sector is below k were read, so many of them.
 pub record AreCellsRead (g : Geometry) (live : Slots) (redo : Redo) (k count : ℕ)
     (old new : Standing) : Type 0 where
-  pub asks : Asks live (IsBodySector g redo) old.body.gone new.body.gone old.telling new.telling
+  pub asks : Asks live (IsBodySector g redo) old.body.gone new.body.gone old.rack_state new.rack_state
   pub each : (i c : ℕ) → IsBelow g redo k i c
       → IsCellGiven g live old new i c ⊎ IsCellUngiven g live old new i c
   pub unread : IsFirst (IsBelow g redo k) (IsCellGiven g live old new)
@@ -156,4 +156,4 @@ pub record AsksBefore (g : Geometry) (live : Slots) (redo : Redo) (i c : ℕ)
 pub record IsReadTo (g : Geometry) (live : Slots) (redo : Redo) (i c : ℕ)
     (old new : Standing) : Type 0 where
   pub read : AreCellsRead g live redo (body_sector g i c) (cells_before redo.cells i c) old new
-  pub in_turn : IsTrue new.telling.honest → AsksBefore g live redo i c old new
+  pub in_turn : IsTrue new.rack_state.honest → AsksBefore g live redo i c old new

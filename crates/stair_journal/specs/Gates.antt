@@ -9,7 +9,7 @@ use Rattle.stair_rack.specs.History.{Read}
 use Rattle.stair_rack.specs.Reading.{IsReadOf}
 use Rattle.stair_rack.specs.Sector.{Cell}
 use Rattle.stair_rack.specs.Stretch.{WasAnswered}
-use Rattle.stair_rack.specs.Telling.{Telling, IsGone, IsReading}
+use Rattle.stair_rack.specs.RackState.{RackState, IsGone, IsReading}
 use Rattle.stair_rack.specs.declared.rack.Got.TheVariants as got
 use Rattle.stair_journal.specs.Gate.{IsOpenWith, ReadsClosed}
 use Rattle.stair_journal.specs.declared.gates.Gates.{Gates}
@@ -38,7 +38,7 @@ pub record IsOpened (g : Geometry) (redo : Option Redo) (gate : Cell) : Type 0 w
   pub is_open : IsOpenWith g gate with_redo
 
 -- What reading the gates of the live slots does.
-pub record ReadsGates (g : Geometry) (live : Slots) (gates : Gates) (old new : Telling)
+pub record ReadsGates (g : Geometry) (live : Slots) (gates : Gates) (old new : RackState)
     : Type 0 where
   pub honest : old.honest ≡ new.honest
   -- the gate of each live slot that wasn't gone, as it was read

@@ -6,7 +6,7 @@ use Rattle.stair_model.specs.Slots.{HasSlot, IsSlotSet}
 use Rattle.stair_rack.specs.Answers.{Calls}
 use Rattle.stair_rack.specs.History.{Happening, Read}
 use Rattle.stair_rack.specs.Sector.{Cell}
-use Rattle.stair_rack.specs.Telling.{Telling, IsGone, IsReading}
+use Rattle.stair_rack.specs.RackState.{RackState, IsGone, IsReading}
 use Rattle.stair_rack.specs.declared.rack.Got.{Got}
 use Rattle.stair_rack.specs.declared.rack.Got.TheVariants as got
 use Rattle.stair_journal.specs.Gate.{IsOpenWith, ReadsClosed}
@@ -16,13 +16,13 @@ use Rattle.stair_journal.specs.declared.gates.Seen.TheVariants.{Open, Closed, Go
 use Rattle.stair_journal.specs.declared.redo.Redo.{Redo}
 
 -- slot j's gate was read, and P holds of its cell
-pub record IsGateRead (P : Cell → Type 0) (j : ℕ) (old new : Telling) : Type 0 where
+pub record IsGateRead (P : Cell → Type 0) (j : ℕ) (old new : RackState) : Type 0 where
   pub cell : Cell
   pub read : IsReading j gate_sector old new cell
   pub says : P cell
 
 -- what slot j's gate was seen to say
-abbrev pub IsSeen : Geometry → ℕ → Telling → Telling → Seen → Type 0
+abbrev pub IsSeen : Geometry → ℕ → RackState → RackState → Seen → Type 0
 IsSeen g j old new (Open redo) = IsGateRead (λ cell. IsOpenWith g cell redo) j old new
 IsSeen g j old new Closed = IsGateRead (ReadsClosed g) j old new
 IsSeen g j old new Gone = IsGone j old new

@@ -6,7 +6,7 @@ use Rattle.stair_rack.specs.History.{SlotCall, Attach, Sectors, Read, Write, Syn
 use Rattle.stair_rack.specs.Placed.{Placed, Writes}
 use Rattle.stair_rack.specs.RackCounts.{NoneFalls}
 use Rattle.stair_rack.specs.Stretch.{WasAnswered}
-use Rattle.stair_rack.specs.Telling.{Telling}
+use Rattle.stair_rack.specs.RackState.{RackState}
 use Rattle.stair_rack.specs.declared.rack.Reply.TheVariants as reply
 
 -- a write or a sync that was answered gone
@@ -19,7 +19,7 @@ AnswersGone (Sync answer) = answer ≡ reply.Gone
 
 -- These writes were made on the slots of `to`, which were then synced, but for those of `gone`: each of these was gone, and
 -- its count rose.
-pub record DoesPhase (what : Writes) (to gone : Slots) (old new : Telling) : Type 0 where
+pub record DoesPhase (what : Writes) (to gone : Slots) (old new : RackState) : Type 0 where
   pub honest : old.honest ≡ new.honest
   pub placed : IsTrue new.honest
       → Placed what (HasSlot to) (HasSlot gone) old.history new.history

@@ -36,7 +36,7 @@ pub fn read_body<R: Rack>(
 ) -> Body
     requires redo { IsRedo geometry.now redo.now }
     requires stripe { IsStripeOf geometry.now into.old }
-    ensures told { ReadsBody geometry.now live redo.now result into.old into.new
+    ensures does { ReadsBody geometry.now live redo.now result into.old into.new
         (told R.Rack rack.old) (told R.Rack rack.new) }
     ensures in_turn { IsTrue R.is_honest →
         AsksInTurn geometry.now live redo.now result.unread into.old into.new
@@ -125,7 +125,7 @@ fn find<R: Rack>(
 ) -> Found
     ensures asks { Asks live (λ k. k ≡ sector) gone.old gone.new (told R.Rack rack.old)
         (told R.Rack rack.new) }
-    ensures told { IsFound live sector gone.new bytes.new (told R.Rack rack.old)
+    ensures does { IsFound live sector gone.new bytes.new (told R.Rack rack.old)
         (told R.Rack rack.new) result }
     ensures in_turn { IsTrue R.is_honest → AsksSlots live sector bytes.new
         (asking gone.old (R.history rack.old)) (asking gone.new (R.history rack.new)) result }
@@ -152,7 +152,7 @@ fn ask<R: Rack>(
     requires { slot < 32 }
     ensures asks { Asks live (λ k. k ≡ sector) gone.old gone.new (told R.Rack rack.old)
         (told R.Rack rack.new) }
-    ensures told { IsAnswer live slot sector gone.new bytes.new (told R.Rack rack.old)
+    ensures does { IsAnswer live slot sector gone.new bytes.new (told R.Rack rack.old)
         (told R.Rack rack.new) result }
     ensures in_turn { IsTrue R.is_honest → AsksSlot live slot sector bytes.new
         (asking gone.old (R.history rack.old)) (asking gone.new (R.history rack.new)) result }

@@ -38,7 +38,7 @@ enum Seen {
 ///
 /// A gate that can't be read reads as closed.
 pub fn read_gates<R: Rack>(rack: &mut R, geometry: &Geometry, live: Slots) -> Gates
-    ensures told { ReadsGates geometry.now live result (told R.Rack rack.old)
+    ensures does { ReadsGates geometry.now live result (told R.Rack rack.old)
         (told R.Rack rack.new) }
     ensures in_turn { IsTrue R.is_honest →
         ReadsGatesInTurn live result.gone (R.history rack.old) (R.history rack.new) }
@@ -63,7 +63,7 @@ pub fn read_gates<R: Rack>(rack: &mut R, geometry: &Geometry, live: Slots) -> Ga
 // Reads the gate of one slot.
 fn look_at<R: Rack>(rack: &mut R, geometry: &Geometry, slot: u8) -> Seen
     requires { slot < 32 }
-    ensures told { IsSeen geometry.now slot (told R.Rack rack.old) (told R.Rack rack.new) result }
+    ensures does { IsSeen geometry.now slot (told R.Rack rack.old) (told R.Rack rack.new) result }
     ensures once { IsTrue R.is_honest →
         IsReadOnce slot result (R.history rack.old) (R.history rack.new) }
     ensures counts { NoneFalls (R.bads rack.old) (R.bads rack.new) (R.gones rack.old)

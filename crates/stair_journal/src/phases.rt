@@ -32,7 +32,7 @@ pub fn write_body<R: Rack>(
 ) -> Slots
     requires redo { IsRedo geometry.now redo.now }
     requires stripe { IsStripeOf geometry.now stripe.now }
-    ensures told { DoesPhase (body_writes geometry.now redo.now stripe.now) live result
+    ensures does { DoesPhase (body_writes geometry.now redo.now stripe.now) live result
         (told R.Rack rack.old) (told R.Rack rack.new) }
     ensures reads { R.reads rack.new ≡ R.reads rack.old }
 {
@@ -56,7 +56,7 @@ fn write_cells<R: Rack>(
     requires slot_in { slot < 32 }
     requires redo { IsRedo geometry.now redo.now }
     requires stripe { IsStripeOf geometry.now stripe.now }
-    ensures told { IsTrue R.is_honest →
+    ensures does { IsTrue R.is_honest →
         Writing (body_writes geometry.now redo.now stripe.now) (IsSlot slot)
         (IsGoneSlot slot result) (IsOnSlot slot) (R.history rack.old)
         (R.history rack.new) }
@@ -89,7 +89,7 @@ fn write_row<R: Rack>(
     requires row_in { row < geometry.now.r }
     requires redo { IsRedo geometry.now redo.now }
     requires stripe { IsStripeOf geometry.now stripe.now }
-    ensures told { IsTrue R.is_honest →
+    ensures does { IsTrue R.is_honest →
         Writing (body_writes geometry.now redo.now stripe.now) (IsSlot slot)
         (IsGoneSlot slot result) (IsInRow geometry.now slot row) (R.history rack.old)
         (R.history rack.new) }
@@ -120,7 +120,7 @@ fn write_row<R: Rack>(
 /// On a slot that isn't answered the gate is safe from a crash. On one that is, it may be left as it was, open or torn.
 pub fn open_gates<R: Rack>(rack: &mut R, live: Slots, geometry: &Geometry, redo: &Redo) -> Slots
     requires { IsRedo geometry.now redo.now }
-    ensures told { DoesPhase (gate_writes (opened geometry.now redo.now)) live result
+    ensures does { DoesPhase (gate_writes (opened geometry.now redo.now)) live result
         (told R.Rack rack.old) (told R.Rack rack.new) }
     ensures reads { R.reads rack.new ≡ R.reads rack.old }
 {
@@ -131,7 +131,7 @@ pub fn open_gates<R: Rack>(rack: &mut R, live: Slots, geometry: &Geometry, redo:
 ///
 /// On a slot that isn't answered the gate is safe from a crash. On one that is, it may be left as it was, closed or torn.
 pub fn close_gates<R: Rack>(rack: &mut R, live: Slots) -> Slots
-    ensures told { DoesPhase (gate_writes closed) live result (told R.Rack rack.old)
+    ensures does { DoesPhase (gate_writes closed) live result (told R.Rack rack.old)
         (told R.Rack rack.new) }
     ensures reads { R.reads rack.new ≡ R.reads rack.old }
 {
@@ -139,7 +139,7 @@ pub fn close_gates<R: Rack>(rack: &mut R, live: Slots) -> Slots
 }
 
 fn write_gates<R: Rack>(rack: &mut R, live: Slots, gate: &[u8; SECTOR]) -> Slots
-    ensures told { DoesPhase (gate_writes gate.now) live result (told R.Rack rack.old)
+    ensures does { DoesPhase (gate_writes gate.now) live result (told R.Rack rack.old)
         (told R.Rack rack.new) }
     ensures reads { R.reads rack.new ≡ R.reads rack.old }
 {

@@ -30,8 +30,8 @@ use Rattle.stair_member.proofs.SuperLemmas.{counts_bears, holds_once, super_at}
 use Rattle.stair_state.specs.Blocks.{Codewords}
 use Rattle.stair_state.specs.Degraded.{AreAllDamaged, AreDamagedCopies}
 use Rattle.stair_state.proofs.FormLemmas.{good_kept, good_whole}
-use Rattle.stair_session.specs.Mixed.{AsAt, Away, IsMixed, IsMixedSlot, IsToleratedMixed, WasDamaged, WasOffline}
-use Rattle.stair_return.specs.Misled.{device_cell, five}
+use Rattle.stair_invariant.specs.Mixed.{AsAt, Away, IsMixed, IsMixedSlot, IsToleratedMixed, WasDamaged, WasOffline}
+use Rattle.stair_reinsert.specs.Misled.{device_cell, five}
 use Rattle.stair_reinsert_examples.specs.Refused.{all_live}
 use Rattle.stair_reinsert_examples.proofs.FiveDevices.{place_cell, whole_chunks}
 use Rattle.stair_reinsert_examples.proofs.FiveSupers.{named_super, past_none}

@@ -20,12 +20,12 @@ use Rattle.stair_member.specs.Superblocks.{HasSuper}
 use Rattle.stair_member.proofs.EditionLemmas.{holds_copy}
 use Rattle.stair_state.specs.Blocks.{Codewords}
 use Rattle.stair_state.proofs.FormLemmas.{good_kept}
-use Rattle.stair_return.specs.Misled.{device_cell, five}
-use Rattle.stair_return.proofs.LookedSoFar.{mixed_unwritten}
-use Rattle.stair_return.proofs.MixedImages.{tolerated_at}
+use Rattle.stair_reinsert.specs.Misled.{device_cell, five}
+use Rattle.stair_reinsert.proofs.LookedSoFar.{mixed_unwritten}
+use Rattle.stair_reinsert.proofs.MixedImages.{tolerated_at}
 use Rattle.stair_reinsert_examples.proofs.FiveDevices.{good_cell, place_cell}
 use Rattle.stair_reinsert_examples.proofs.FiveMoments.{HoldsDevice, Holding, SlotIs, Without}
-use Rattle.stair_lives.specs.Example.{Cut, Holds, IsCalmAmid, IsMomentAmid, IsPlaceAmid, IsSlotAmid, IsSpelledAmid, KeepsAmid, left_out, reinserted, without_third}
+use Rattle.stair_lives.specs.Example.{Cut, Holds, StaysWithinToleranceAmid, IsMomentAmid, IsPlaceAmid, IsSlotAmid, IsSpelledAmid, KeepsAmid, left_out, reinserted, without_third}
 use Rattle.stair_lives.proofs.Amid.{amid_super, mixed_amid, third_alone}
 use Rattle.stair_lives.proofs.LeftOutAgain.{goes, other_is}
 
@@ -313,7 +313,7 @@ module _ (words : Codewords) where
       at_every_mapped {P = IsRackAmid} {Q = IsMomentAmid words} (λ moment is. moment_amid moment start is)
       (record { more = keeps.more; is = keeps.is; each = along keeps.more (reinserted words) keeps.each start })
 
-pub calm_amid : (words : Codewords) → IsCalmAmid words
+pub calm_amid : (words : Codewords) → StaysWithinToleranceAmid words
 calm_amid words = record {
   begins = moment_amid words (reinserted words) (start words) (start words);
   kept = kept_amid words;

@@ -23,11 +23,11 @@ use Rattle.stair_state.specs.State.{State}
 use Rattle.stair_state.specs.Tolerance.{IsToleratedAlone}
 use Rattle.stair_state.proofs.FormLemmas.{same_kept}
 use Rattle.stair_state.proofs.ReassembledLemmas.{IsBorneFrom, borne_of, counts_from, few_by}
-use Rattle.stair_session.specs.InSession.{IsBehindPlaces}
-use Rattle.stair_session.specs.Returning.{KnowsMedia}
-use Rattle.stair_session.proofs.ChangingLemmas.{live_here}
-use Rattle.stair_return.proofs.PlacesSince.{super_so}
-use Rattle.stair_return.proofs.SupersSince.{was_borne}
+use Rattle.stair_invariant.specs.InSession.{IsBehindPlaces}
+use Rattle.stair_invariant.specs.Returning.{KnowsMedia}
+use Rattle.stair_invariant.proofs.ChangingLemmas.{live_here}
+use Rattle.stair_reinsert.proofs.PlacesSince.{super_so}
+use Rattle.stair_reinsert.proofs.SupersSince.{was_borne}
 use Rattle.stair_lives.specs.Stale.{IsNewest}
 use Rattle.stair_lives.proofs.Known.{IsKnown}
 use Rattle.stair_lives.proofs.NewestLemmas.{NamesNewest}

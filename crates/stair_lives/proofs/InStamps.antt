@@ -9,28 +9,28 @@ use Rattle.stair_rack.specs.declared.watcher.Event.{Event}
 use Rattle.stair_rack.proofs.MomentLemmas.{moment_between, ran_before}
 use Rattle.stair_member.specs.Establishing.{Establishes}
 use Rattle.stair_member.specs.Membership.{Membership}
-use Rattle.stair_member.specs.declared.aim.Aim.{Aim}
+use Rattle.stair_member.specs.declared.aim.EpochChange.{EpochChange}
 use Rattle.stair_member.specs.declared.fault.FenceFault.{FenceFault}
 use Rattle.stair_state.specs.State.{Change, State}
 use Rattle.stair_state.specs.Tolerance.{IsTolerated}
-use Rattle.stair_session.specs.Courses.{point}
-use Rattle.stair_session.specs.Returning.{AnyReturns, IsCalm, holders_of}
-use Rattle.stair_session.proofs.Serving.{IsServing}
-use Rattle.stair_session.proofs.Stamping.{IsPlain}
+use Rattle.stair_invariant.specs.Effects.{snapshot}
+use Rattle.stair_invariant.specs.Returning.{AnyReturns, StaysWithinTolerance, current_media_of}
+use Rattle.stair_invariant.proofs.Serving.{IsServing}
+use Rattle.stair_invariant.proofs.Stamping.{IsPlain}
 use Rattle.stair_array.specs.Machine.{Answer, SetFrozen, SetLabel, Step}
 use Rattle.stair_array.specs.Promise.{IsInState, IsOpenFor, Performs, Seen, is_open}
 use Rattle.stair_array.proofs.OpenStepLemmas.{calm_first, open_first, serves_first}
 use Rattle.stair_array.proofs.StampStepLemmas.{Failed, IsStamped, Stamping, Stood, freezing, labelling}
-use Rattle.stair_return.specs.Beginning.{BeginsWherever, SaysContent}
-use Rattle.stair_return.proofs.ReadsLead.{reads_lead}
-use Rattle.stair_return.proofs.ServingEpochs.{doubtful, serving_begins}
+use Rattle.stair_reinsert.specs.Beginning.{BeginsWherever, SaysContent}
+use Rattle.stair_reinsert.proofs.ReadsLead.{reads_lead}
+use Rattle.stair_reinsert.proofs.ServingEpochs.{doubtful, serving_begins}
 use Rattle.stair_lives.specs.Stale.{NeverLiveInStamps, OnlyMeantAreLive}
 use Rattle.stair_lives.proofs.Begun.{meant_live}
 
-module _ (step : Step) (change : Change) (aim : Membership → Aim) (of_step : Stamping step change aim) (answer : Answer step) (events : List Event)
+module _ (step : Step) (change : Change) (aim : Membership → EpochChange) (of_step : Stamping step change aim) (answer : Answer step) (events : List Event)
     (x y : Seen) (p : Performs step answer events x y) (honest : IsTrue y.told.honest) (history : IsHistory x.told.history) (before : List Happening)
     (s : State) (state : IsInState AnyReturns before s x) (c : List Happening) (at : IsMoment x.told.history c y.told.history)
-    (calm : IsCalm AnyReturns s.geometry (is_open x.session) before c) where
+    (calm : StaysWithinTolerance AnyReturns s.geometry (is_open x.session) before c) where
   abbrev m : Membership
   m = p.was.member
 
@@ -57,7 +57,7 @@ module _ (step : Step) (change : Change) (aim : Membership → Aim) (of_step : S
   says : SaysContent in_doubt (aim m) m
   says = record { frozen = inl serves.of.frozen; label = inl serves.of.label; frozen_new = plain.says.frozen; label_new = plain.says.label }
 
-  begun : BeginsWherever in_doubt (holders_of m) m.array.epoch (aim m) m x.told.history
+  begun : BeginsWherever in_doubt (current_media_of m) m.array.epoch (aim m) m x.told.history
   begun =
       serving_begins before p.was begins.words s.content (Some change) plain.blocks x.told.history serves (aim m) plain.admits plain.promotes says
       tolerated
@@ -70,9 +70,9 @@ module _ (step : Step) (change : Change) (aim : Membership → Aim) (of_step : S
   stamped : OnlyMeantAreLive s.geometry m c
   stamped =
       subst (λ (g : Geometry). OnlyMeantAreLive g m c) begins.geometry
-      (by answer (of_step.does p.was p.is.remembered answer (point m x.told) (point p.is.member y.told) p.does))
+      (by answer (of_step.does p.was p.is.remembered answer (snapshot m x.told) (snapshot p.is.member y.told) p.does))
     where
-      by : (given : Answer step) → IsStamped (aim m) (point m x.told) (point p.is.member y.told) given → OnlyMeantAreLive m.array.geometry m c
+      by : (given : Answer step) → IsStamped (aim m) (snapshot m x.told) (snapshot p.is.member y.told) given → OnlyMeantAreLive m.array.geometry m c
       by _ (Stood given e) = live_by None e
       by _ (Failed fault e) = live_by (Some fault) e
 

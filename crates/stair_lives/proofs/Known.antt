@@ -9,7 +9,7 @@ use Rattle.stair_member.specs.Aims.{mark_for}
 use Rattle.stair_member.specs.Membership.{IsHere, IsMembership, Membership, why_of}
 use Rattle.stair_member.specs.declared.why.Why.{Why}
 use Rattle.stair_member.specs.declared.why.Why.TheVariants as why
-use Rattle.stair_session.proofs.SeatLemmas.{listed_member, past_down}
+use Rattle.stair_invariant.proofs.SeatLemmas.{listed_member, past_down}
 
 pub record IsKnown (m : Membership) : Type 0 where
   pub rules : IsMembership m

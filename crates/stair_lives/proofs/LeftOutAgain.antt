@@ -11,7 +11,7 @@ use Rattle.stair_rack.specs.Outside.{IsAct}
 use Rattle.stair_rack.specs.Offline.{IsOffline, NoMedium, RackStopped, Unattached}
 use Rattle.stair_rack.specs.Sector.{Cell, Damaged, Good}
 use Rattle.stair_rack.specs.Stretch.{EachOf, ReturnsNothing}
-use Rattle.stair_rack.specs.Telling.{Telling}
+use Rattle.stair_rack.specs.RackState.{RackState}
 use Rattle.stair_rack.proofs.MomentLemmas.{ran_none}
 use Rattle.stair_rack.proofs.TidyLemmas.{history_made, history_on}
 use Rattle.stair_super.specs.Spelling.{spelled}
@@ -35,14 +35,14 @@ use Rattle.stair_state.specs.Tolerance.{IsTolerated}
 use Rattle.stair_state.proofs.AloneLemmas.{IsImageTidy, left_is, steady_made}
 use Rattle.stair_state.proofs.OutsideLemmas.{steady_looks}
 use Rattle.stair_state.proofs.ReturnLemmas.{looked_consistent}
-use Rattle.stair_session.specs.Mixed.{IsToleratedMixed}
-use Rattle.stair_session.specs.Returning.{AnyReturns, IsCalm}
-use Rattle.stair_return.specs.Misled.{device_cell, device_of, five, rack_of}
-use Rattle.stair_return.specs.Still.{IsStill}
-use Rattle.stair_return.proofs.LookedSoFar.{mixed_unwritten}
-use Rattle.stair_return.proofs.MixedImages.{tolerated_at}
-use Rattle.stair_return.proofs.StillStretch.{still_tolerated}
-use Rattle.stair_return.proofs.SurveyLemmas.{finds}
+use Rattle.stair_invariant.specs.Mixed.{IsToleratedMixed}
+use Rattle.stair_invariant.specs.Returning.{AnyReturns, StaysWithinTolerance}
+use Rattle.stair_reinsert.specs.Misled.{device_cell, device_of, five, rack_of}
+use Rattle.stair_reinsert.specs.Still.{IsStill}
+use Rattle.stair_reinsert.proofs.LookedSoFar.{mixed_unwritten}
+use Rattle.stair_reinsert.proofs.MixedImages.{tolerated_at}
+use Rattle.stair_reinsert.proofs.StillStretch.{still_tolerated}
+use Rattle.stair_reinsert.proofs.SurveyLemmas.{finds}
 use Rattle.stair_reinsert_examples.specs.Refused.{all_live}
 use Rattle.stair_reinsert_examples.proofs.FiveConsistent.{inside, made_tidy, zeros}
 use Rattle.stair_reinsert_examples.proofs.FiveDevices.{AreEditions, IsWithin, chunk_cell, gate_cell, place_cell, tolerates}
@@ -326,12 +326,12 @@ module _ (words : Codewords) where
   pub mixed : (h : List Happening) → IsStill (reinserted words) h → IsToleratedMixed five (reinserted words) (reinserted words) h
   mixed h still = still_tolerated five (reinserted words) h was_history steady still tolerated
 
-  calm : (h : List Happening) → IsStill (reinserted words) h → IsCalm AnyReturns five false (reinserted words) h
+  calm : (h : List Happening) → IsStill (reinserted words) h → StaysWithinTolerance AnyReturns five false (reinserted words) h
   calm h still =
       (λ moment at. tolerated_at five (reinserted words) (reinserted words) h (mixed h still) moment at, mixed_unwritten five (reinserted words) h (mixed h still))
 
   -- slot 3 takes no part for a member that was found by epoch 5
-  pub not_here : (first last : Telling) (m : Membership) (surveys : Surveys (Ok m) first last) → m.array ≡ newest.array → ¬ IsHere m 3
+  pub not_here : (first last : RackState) (m : Membership) (surveys : Surveys (Ok m) first last) → m.array ≡ newest.array → ¬ IsHere m 3
   not_here first last m surveys same here =
       let surveyed : IsSurveyed surveys.findings m = surveys.answered.0 in
       let down : mark_at surveyed.current 3 ≡ Down =

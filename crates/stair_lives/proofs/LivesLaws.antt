@@ -1,4 +1,4 @@
--- The laws over the life of an array: by the story of each call, and from one call to the next.
+-- The laws over the life of an array: by the trace of each call, and from one call to the next.
 use Rattle.std.proofs.Common.{◌≡◌, ◌∙◌, ◌++◌, ◌⊎◌, ℕ, List, [], ◌∷◌, None, append_assoc, inl, inr, refl, sym, ap, subst}
 use Rattle.std.specs.Prelude.{IsSome, IsTrue}
 use Rattle.stair_model.specs.Geometry.{Geometry}
@@ -15,39 +15,39 @@ use Rattle.stair_state.specs.Holding.{IsConsistentUnderReassembly}
 use Rattle.stair_state.specs.Reassembly.{Location}
 use Rattle.stair_state.specs.Represents.{no_write}
 use Rattle.stair_state.specs.State.{State, without_seats}
-use Rattle.stair_session.specs.InSession.{IsBehindPlaces}
-use Rattle.stair_session.specs.Returning.{AnyReturns, StandsFor}
+use Rattle.stair_invariant.specs.InSession.{IsBehindPlaces}
+use Rattle.stair_invariant.specs.Returning.{AnyReturns, StandsFor}
 use Rattle.stair_array.specs.Machine.{CutWithin, Step}
-use Rattle.stair_array.specs.Promise.{Begun, Found, IsOpenFor, ServesState, Session}
+use Rattle.stair_array.specs.Promise.{Begun, Found, IsOpenFor, ServesState, Phase}
 use Rattle.stair_array.proofs.KeepLemmas.{no_writes}
-use Rattle.stair_story.specs.Devices.{DeviceView, Devices, WorksAll, devices, seen_of}
-use Rattle.stair_story.specs.Headline.{IsBorneOut}
-use Rattle.stair_story.specs.Outside.{Outside, Views}
-use Rattle.stair_story.specs.Plan.{Plan}
-use Rattle.stair_story.specs.Run.{IsCalmUpTo, IsSafe, IsUpTo, StoryLeads, history_of, now}
-use Rattle.stair_story.specs.Sessions.{Calls, Cut, Ends, IsLived, Starts, turns_of}
-use Rattle.stair_story.specs.Story.{Deed, Leads}
-use Rattle.stair_story.proofs.HeadlineLaws.{all_lead}
-use Rattle.stair_story.proofs.PerformedLaws.{all_performed}
-use Rattle.stair_story.proofs.RunLaws.{IsAt, IsStoppedBy, RunsOn, forgets, runs_on, works_ran}
-use Rattle.stair_story.proofs.SessionLaws.{calls_are_lived, life_geometry, runs_are_lived}
+use Rattle.stair_command.specs.Devices.{DeviceView, Devices, WorksAll, devices, seen_of}
+use Rattle.stair_command.specs.Headline.{RefinesProgram}
+use Rattle.stair_command.specs.Outside.{Outside, Views}
+use Rattle.stair_command.specs.Program.{Program}
+use Rattle.stair_command.specs.Run.{StaysWithinToleranceUpTo, IsSafe, IsUpTo, TraceLeads, history_of, now}
+use Rattle.stair_command.specs.Sessions.{Calls, Cut, Ends, IsLived, Starts, turns_of}
+use Rattle.stair_command.specs.Trace.{TraceItem, AlongTrace}
+use Rattle.stair_command.proofs.HeadlineLaws.{all_lead}
+use Rattle.stair_command.proofs.PerformedLaws.{all_performed}
+use Rattle.stair_command.proofs.RunLaws.{IsAt, IsStoppedBy, RunsOn, forgets, runs_on, works_ran}
+use Rattle.stair_command.proofs.SessionLaws.{calls_are_lived, life_geometry, runs_are_lived}
 use Rattle.stair_reinsert_examples.proofs.RefusedLemmas.{left_there}
 use Rattle.stair_lives.specs.Stale.{ComesTo, IsLeftOut, IsNeverLive, IsNewest, IsOpenBy, IsReplacedIn, NamesOnce, NoneIsAdded, StandsSince}
 use Rattle.stair_lives.proofs.BehindPlaces.{knows_behind}
 use Rattle.stair_lives.proofs.Known.{IsKnown, here_up, up_here}
 use Rattle.stair_lives.proofs.NewestLemmas.{knows_newest, left_newest, left_out_stays, looked_newest}
-use Rattle.stair_lives.proofs.SessionLine.{Follows, SessionFollows, story_follows}
+use Rattle.stair_lives.proofs.SessionLine.{Follows, SessionFollows, trace_follows}
 
 -- DEEDS OF TWO PARTS
 
-replaced_first : (j : ℕ) (one two : List Deed) → IsReplacedIn j one → IsReplacedIn j (one ++ two)
+replaced_first : (j : ℕ) (one two : List TraceItem) → IsReplacedIn j one → IsReplacedIn j (one ++ two)
 replaced_first j [] two has = absurd has
-replaced_first j (deed ∷ one) two (inl admits) = inl admits
-replaced_first j (deed ∷ one) two (inr has) = inr (replaced_first j one two has)
+replaced_first j (item ∷ one) two (inl admits) = inl admits
+replaced_first j (item ∷ one) two (inr has) = inr (replaced_first j one two has)
 
-replaced_then : (j : ℕ) (one two : List Deed) → IsReplacedIn j two → IsReplacedIn j (one ++ two)
+replaced_then : (j : ℕ) (one two : List TraceItem) → IsReplacedIn j two → IsReplacedIn j (one ++ two)
 replaced_then j [] two has = has
-replaced_then j (deed ∷ one) two has = inr (replaced_then j one two has)
+replaced_then j (item ∷ one) two has = inr (replaced_then j one two has)
 
 -- A PART OF A STORY
 
@@ -63,27 +63,27 @@ upto_ran : {allowed : ℕ → SlotCall → Type 0} {old new : List Happening} �
 upto_ran ran = moment_first ran.more ran.is
 
 module _ {R W : Type 0} (view : DeviceView R W) where
-  part_works : (story : List Deed) (x y : Devices R W) (works : Leads (WorksAll view) story x y) (done : List Deed) (here : Devices R W)
-      → ComesTo view story x y works done here → Leads (WorksAll view) done x here
-  part_works story x y works [] here comes = comes
+  part_works : (trace : List TraceItem) (x y : Devices R W) (works : AlongTrace (WorksAll view) trace x y) (done : List TraceItem) (here : Devices R W)
+      → ComesTo view trace x y works done here → AlongTrace (WorksAll view) done x here
+  part_works trace x y works [] here comes = comes
   part_works [] x y works (one ∷ done) here comes = absurd comes
-  part_works (deed ∷ story) x y works (one ∷ done) here comes = (
+  part_works (item ∷ trace) x y works (one ∷ done) here comes = (
     works.0,
-    subst (λ (d : Deed). WorksAll view d x works.0) (sym comes.0) works.1,
-    part_works story works.0 y works.2 done here comes.1,
+    subst (λ (d : TraceItem). WorksAll view d x works.0) (sym comes.0) works.1,
+    part_works trace works.0 y works.2 done here comes.1,
   )
 
   -- what is asked of the outside was kept over it
-  part_calm : (g : Geometry) (before c : List Happening) (story : List Deed) (x y : Devices R W) (works : Leads (WorksAll view) story x y)
-      (done : List Deed) (here : Devices R W) (comes : ComesTo view story x y works done here) → IsUpTo (history_of view here) c
-      → IsCalmUpTo view AnyReturns g before c story x y works
-      → IsCalmUpTo view AnyReturns g before (history_of view here) done x here (part_works story x y works done here comes)
+  part_calm : (g : Geometry) (before c : List Happening) (trace : List TraceItem) (x y : Devices R W) (works : AlongTrace (WorksAll view) trace x y)
+      (done : List TraceItem) (here : Devices R W) (comes : ComesTo view trace x y works done here) → IsUpTo (history_of view here) c
+      → StaysWithinToleranceUpTo view AnyReturns g before c trace x y works
+      → StaysWithinToleranceUpTo view AnyReturns g before (history_of view here) done x here (part_works trace x y works done here comes)
   unfolding part_works
-  part_calm g before c story x y works [] here comes upto calm = tt
+  part_calm g before c trace x y works [] here comes upto calm = tt
   part_calm g before c [] x y works (one ∷ done) here comes upto calm = absurd comes
-  part_calm g before c (deed ∷ story) x y works (one ∷ done) here comes upto calm = (
+  part_calm g before c (item ∷ trace) x y works (one ∷ done) here comes upto calm = (
     λ h at sooner. calm.0 h at (upto_then sooner upto),
-    part_calm g before c story works.0 y works.2 done here comes.1 upto calm.1,
+    part_calm g before c trace works.0 y works.2 done here comes.1 upto calm.1,
   )
 
 -- ONE CALL
@@ -94,33 +94,33 @@ pub record IsLast (g : Geometry) (m : Membership) (h : List Happening) : Type 0 
   pub known : IsKnown m
 
 -- what is newest, and which media are meant since the first member
-pub record HasStood (g : Geometry) (m last : Membership) (deeds : List Deed) (h : List Happening) : Type 0 where
+pub record HasStood (g : Geometry) (m last : Membership) (trace_items : List TraceItem) (h : List Happening) : Type 0 where
   pub is : IsLast g last h
-  pub line : NoneIsAdded m last deeds
+  pub line : NoneIsAdded m last trace_items
 
-module _ {R W : Type 0} (view : DeviceView R W) (honest : IsTrue view.rack.honest) (s : State) (story : List Deed) (x y : Devices R W)
-    (works : Leads (WorksAll view) story x y) (history : IsHistory (history_of view x)) (begun : x.session ≡ Begun)
+module _ {R W : Type 0} (view : DeviceView R W) (honest : IsTrue view.rack.honest) (s : State) (trace : List TraceItem) (x y : Devices R W)
+    (works : AlongTrace (WorksAll view) trace x y) (history : IsHistory (history_of view x)) (begun : x.session ≡ Begun)
     (stands : StandsFor AnyReturns s (history_of view x))
-    (calm : IsCalmUpTo view AnyReturns s.geometry (history_of view x) (history_of view y) story x y works) where
+    (calm : StaysWithinToleranceUpTo view AnyReturns s.geometry (history_of view x) (history_of view y) trace x y works) where
   begins : IsAt view AnyReturns (history_of view x) (without_seats s) None x
   begins = record {
     is_in = record {
       stands = forgets AnyReturns s (history_of view x) stands;
       serves =
-          subst (λ (session : Session). ServesState AnyReturns (history_of view x) (without_seats s) session (seen_of view x).told) (sym begun) (refl, refl);
+          subst (λ (session : Phase). ServesState AnyReturns (history_of view x) (without_seats s) session (seen_of view x).told) (sym begun) (refl, refl);
     };
-    kept = subst (λ (session : Session). IsStoppedBy session None) (sym begun) refl;
+    kept = subst (λ (session : Phase). IsStoppedBy session None) (sym begun) refl;
   }
 
-  led : StoryLeads AnyReturns view story x y works
-  led = all_lead AnyReturns view (all_performed AnyReturns) story x y works
+  led : TraceLeads AnyReturns view trace x y works
+  led = all_lead AnyReturns view (all_performed AnyReturns) trace x y works
 
-  run : RunsOn view honest AnyReturns (history_of view x) (without_seats s) None story x y
-  run = runs_on view honest AnyReturns (history_of view x) (without_seats s) None story x y works led history begins calm
+  run : RunsOn view honest AnyReturns (history_of view x) (without_seats s) None trace x y
+  run = runs_on view honest AnyReturns (history_of view x) (without_seats s) None trace x y works led history begins calm
 
   -- an array that is open knows the newest epoch
   open_last : (m : Membership) → IsOpenBy y.session m → IsLast s.geometry m (history_of view y)
-  open_last m serves = by (subst (λ (session : Session). ServesState AnyReturns (history_of view x) run.state session (seen_of view y).told) serves.1 run.is_at.is_in.serves)
+  open_last m serves = by (subst (λ (session : Phase). ServesState AnyReturns (history_of view x) run.state session (seen_of view y).told) serves.1 run.is_at.is_in.serves)
     where
       some_not : serves.0.stopped ≡ None → IsSome serves.0.stopped → ⊥
       some_not none some = cc
@@ -140,7 +140,7 @@ module _ {R W : Type 0} (view : DeviceView R W) (honest : IsTrue view.rack.hones
   -- also while no superblock place is written from then on
   open_behind : (m : Membership) → IsOpenBy y.session m → (c : List Happening) → Ran IsBehindPlaces (history_of view y) c → IsNewest s.geometry m c
   open_behind m serves c behind =
-      by (subst (λ (session : Session). ServesState AnyReturns (history_of view x) run.state session (seen_of view y).told) serves.1 run.is_at.is_in.serves)
+      by (subst (λ (session : Phase). ServesState AnyReturns (history_of view x) run.state session (seen_of view y).told) serves.1 run.is_at.is_in.serves)
     where
       some_not : serves.0.stopped ≡ None → IsSome serves.0.stopped → ⊥
       some_not none some = cc
@@ -157,35 +157,35 @@ module _ {R W : Type 0} (view : DeviceView R W) (honest : IsTrue view.rack.hones
   found_last : (last : Membership) → IsNewest s.geometry last (history_of view x) → (found : Membership) → y.session ≡ Found found
       → found.array ≡ last.array
   found_last last newest found is_found =
-      subst (SessionFollows last.array (λ j. IsReplacedIn j story)) is_found
-      (story_follows view honest last s.geometry (history_of view x) newest (λ j. IsReplacedIn j story) (without_seats s) None story x y works led history
-      begins refl calm (λ j has. has) (subst (SessionFollows last.array (λ j. IsReplacedIn j story)) (sym begun) tt))
+      subst (SessionFollows last.array (λ j. IsReplacedIn j trace)) is_found
+      (trace_follows view honest last s.geometry (history_of view x) newest (λ j. IsReplacedIn j trace) (without_seats s) None trace x y works led history
+      begins refl calm (λ j has. has) (subst (SessionFollows last.array (λ j. IsReplacedIn j trace)) (sym begun) tt))
 
   -- and what it means was meant when the call began
-  open_stood : (m last now : Membership) (deeds : List Deed) → HasStood s.geometry m last deeds (history_of view x) → IsOpenBy y.session now
-      → HasStood s.geometry m now (deeds ++ story) (history_of view y)
-  open_stood m last now deeds stood serves = record { is = is_last; line = line }
+  open_stood : (m last now : Membership) (trace_items : List TraceItem) → HasStood s.geometry m last trace_items (history_of view x) → IsOpenBy y.session now
+      → HasStood s.geometry m now (trace_items ++ trace) (history_of view y)
+  open_stood m last now trace_items stood serves = record { is = is_last; line = line }
     where
       is_last : IsLast s.geometry now (history_of view y)
       is_last = open_last now serves
 
-      follows : Follows last.array (λ j. IsReplacedIn j story) now.array
+      follows : Follows last.array (λ j. IsReplacedIn j trace) now.array
       follows =
-          subst (λ (k : Membership). Follows last.array (λ j. IsReplacedIn j story) k.array) serves.3
-          (subst (SessionFollows last.array (λ j. IsReplacedIn j story)) serves.1
-          (story_follows view honest last s.geometry (history_of view x) stood.is.newest (λ j. IsReplacedIn j story) (without_seats s) None story x y works
+          subst (λ (k : Membership). Follows last.array (λ j. IsReplacedIn j trace) k.array) serves.3
+          (subst (SessionFollows last.array (λ j. IsReplacedIn j trace)) serves.1
+          (trace_follows view honest last s.geometry (history_of view x) stood.is.newest (λ j. IsReplacedIn j trace) (without_seats s) None trace x y works
           led history begins refl calm (λ j has. has)
-          (subst (SessionFollows last.array (λ j. IsReplacedIn j story)) (sym begun) tt)) serves.2)
+          (subst (SessionFollows last.array (λ j. IsReplacedIn j trace)) (sym begun) tt)) serves.2)
 
-      line : NoneIsAdded m now (deeds ++ story)
+      line : NoneIsAdded m now (trace_items ++ trace)
       line j here =
           elim (follows j (up_here now is_last.known j here)) [
             | inl was ↦
                 elim (stood.line j (here_up last stood.is.known j was.0)) [
                   | inl meant ↦ inl (record { here = meant.here; number = was.1 ∙ meant.number })
-                  | inr before ↦ inr (replaced_first j deeds story before)
+                  | inr before ↦ inr (replaced_first j trace_items trace before)
                 ]
-            | inr added ↦ inr (replaced_then j deeds story added)
+            | inr added ↦ inr (replaced_then j trace_items trace added)
           ]
 
 -- FROM CALL TO CALL
@@ -193,9 +193,9 @@ module _ {R W : Type 0} (view : DeviceView R W) (honest : IsTrue view.rack.hones
 own_line : (m : Membership) → NoneIsAdded m m []
 own_line m j here = inl (record { here = here; number = refl })
 
-looked_stood : (g : Geometry) (m last : Membership) (deeds : List Deed) (old new : List Happening) → HasStood g m last deeds old → Ran no_write old new
-    → HasStood g m last deeds new
-looked_stood g m last deeds old new stood looks = record {
+looked_stood : (g : Geometry) (m last : Membership) (trace_items : List TraceItem) (old new : List Happening) → HasStood g m last trace_items old → Ran no_write old new
+    → HasStood g m last trace_items new
+looked_stood g m last trace_items old new stood looks = record {
   is = record { newest = looked_newest g last old new stood.is.newest looks; known = stood.is.known };
   line = stood.line;
 }
@@ -204,91 +204,91 @@ module _ {R W S K : Type 0} (view : DeviceView R W) (streams : Views S K) (first
   -- what has happened is a history
   pub life_history : (h : List Happening) → Calls view streams AnyReturns first h → IsHistory h
   life_history h (Starts h' history stands) = history
-  life_history h (Ends later plan rest old new x y watchers left calls borne calm acted between) =
+  life_history h (Ends later program rest old new x y watchers left calls borne calm acted between) =
       history_on (history_on (life_history (view.rack.history x) calls)
-      (works_ran view honest borne.over.means.story (devices x Begun watchers) (devices y borne.session left) borne.over.works)) acted
-  life_history h (Cut c image later plan rest old new x y watchers left calls borne at calm crash acted between) = history_on (history_made image) acted
+      (works_ran view honest borne.over.means.trace (devices x Begun watchers) (devices y borne.session left) borne.over.works)) acted
+  life_history h (Cut c image later program rest old new x y watchers left calls borne at calm crash acted between) = history_on (history_made image) acted
 
-  module _ (x : R) (calls : Calls view streams AnyReturns first (view.rack.history x)) (story : List Deed) (watchers : List W) (y : Devices R W)
-      (works : Leads (WorksAll view) story (devices x Begun watchers) y)
-      (calm : IsCalmUpTo view AnyReturns first.geometry (view.rack.history x) (history_of view y) story (devices x Begun watchers) y works) where
+  module _ (x : R) (calls : Calls view streams AnyReturns first (view.rack.history x)) (trace : List TraceItem) (watchers : List W) (y : Devices R W)
+      (works : AlongTrace (WorksAll view) trace (devices x Begun watchers) y)
+      (calm : StaysWithinToleranceUpTo view AnyReturns first.geometry (view.rack.history x) (history_of view y) trace (devices x Begun watchers) y works) where
     lived : IsLived view streams AnyReturns first (view.rack.history x) calls
     lived = calls_are_lived view streams AnyReturns first honest (view.rack.history x) calls
 
     same : lived.state.geometry ≡ first.geometry
     same = life_geometry lived.life (without_seats first) lived.state lived.lives
 
-    own_calm : IsCalmUpTo view AnyReturns lived.state.geometry (view.rack.history x) (history_of view y) story (devices x Begun watchers) y works
+    own_calm : StaysWithinToleranceUpTo view AnyReturns lived.state.geometry (view.rack.history x) (history_of view y) trace (devices x Begun watchers) y works
     own_calm =
-        subst (λ (g : Geometry). IsCalmUpTo view AnyReturns g (view.rack.history x) (history_of view y) story (devices x Begun watchers) y works) (sym same) calm
+        subst (λ (g : Geometry). StaysWithinToleranceUpTo view AnyReturns g (view.rack.history x) (history_of view y) trace (devices x Begun watchers) y works) (sym same) calm
 
     pub call_last : (m : Membership) → IsOpenBy y.session m → IsLast first.geometry m (history_of view y)
     call_last m serves =
         subst (λ (g : Geometry). IsLast g m (history_of view y)) same
-        (open_last view honest lived.state story (devices x Begun watchers) y works (life_history (view.rack.history x) calls) refl lived.stands own_calm m serves)
+        (open_last view honest lived.state trace (devices x Begun watchers) y works (life_history (view.rack.history x) calls) refl lived.stands own_calm m serves)
 
     pub call_behind : (m : Membership) → IsOpenBy y.session m → (c : List Happening) → Ran IsBehindPlaces (history_of view y) c
         → IsNewest first.geometry m c
     call_behind m serves c behind =
         subst (λ (g : Geometry). IsNewest g m c) same
-        (open_behind view honest lived.state story (devices x Begun watchers) y works (life_history (view.rack.history x) calls) refl lived.stands own_calm m serves
+        (open_behind view honest lived.state trace (devices x Begun watchers) y works (life_history (view.rack.history x) calls) refl lived.stands own_calm m serves
         c behind)
 
     pub call_found : (last : Membership) → IsNewest first.geometry last (view.rack.history x) → (found : Membership) → y.session ≡ Found found
         → found.array ≡ last.array
     call_found last newest found is_found =
-        found_last view honest lived.state story (devices x Begun watchers) y works (life_history (view.rack.history x) calls) refl lived.stands own_calm last
+        found_last view honest lived.state trace (devices x Begun watchers) y works (life_history (view.rack.history x) calls) refl lived.stands own_calm last
         (subst (λ (g : Geometry). IsNewest g last (view.rack.history x)) (sym same) newest) found is_found
 
-    pub call_stood : (m last now : Membership) (deeds : List Deed) → HasStood first.geometry m last deeds (view.rack.history x) → IsOpenBy y.session now
-        → HasStood first.geometry m now (deeds ++ story) (history_of view y)
-    call_stood m last now deeds stood serves =
-        subst (λ (g : Geometry). HasStood g m now (deeds ++ story) (history_of view y)) same
-        (open_stood view honest lived.state story (devices x Begun watchers) y works (life_history (view.rack.history x) calls) refl lived.stands own_calm m last
-        now deeds (subst (λ (g : Geometry). HasStood g m last deeds (view.rack.history x)) (sym same) stood) serves)
+    pub call_stood : (m last now : Membership) (trace_items : List TraceItem) → HasStood first.geometry m last trace_items (view.rack.history x) → IsOpenBy y.session now
+        → HasStood first.geometry m now (trace_items ++ trace) (history_of view y)
+    call_stood m last now trace_items stood serves =
+        subst (λ (g : Geometry). HasStood g m now (trace_items ++ trace) (history_of view y)) same
+        (open_stood view honest lived.state trace (devices x Begun watchers) y works (life_history (view.rack.history x) calls) refl lived.stands own_calm m last
+        now trace_items (subst (λ (g : Geometry). HasStood g m last trace_items (view.rack.history x)) (sym same) stood) serves)
 
   -- after a crash
-  crashed : (m last : Membership) (deeds : List Deed) (c : List Happening) (image : Image) → HasStood first.geometry m last deeds c → IsHistory c
-      → CrashMayLeave c image → HasStood first.geometry m last deeds (Made image ∷ [])
-  crashed m last deeds c image stood was left = record {
+  crashed : (m last : Membership) (trace_items : List TraceItem) (c : List Happening) (image : Image) → HasStood first.geometry m last trace_items c → IsHistory c
+      → CrashMayLeave c image → HasStood first.geometry m last trace_items (Made image ∷ [])
+  crashed m last trace_items c image stood was left = record {
     is = record { newest = left_newest first.geometry last c image stood.is.newest was left; known = stood.is.known };
     line = stood.line;
   }
 
-  pub calls_stood : (h : List Happening) (calls : Calls view streams AnyReturns first h) (m last : Membership) (deeds : List Deed)
-      → StandsSince view streams first m h calls last deeds → HasStood first.geometry m last deeds h
-  calls_stood h (Starts h' history stands) m last deeds since = absurd since
-  calls_stood h (Ends later plan rest old new x y watchers left calls borne calm acted between) m last deeds (inl opened) =
-      looked_stood first.geometry m last deeds (view.rack.history y) later
-      (subst (λ (k : Membership). HasStood first.geometry m k deeds (view.rack.history y)) (sym opened.1)
-      (subst (λ (story : List Deed). HasStood first.geometry m m story (view.rack.history y)) (sym opened.2)
+  pub calls_stood : (h : List Happening) (calls : Calls view streams AnyReturns first h) (m last : Membership) (trace_items : List TraceItem)
+      → StandsSince view streams first m h calls last trace_items → HasStood first.geometry m last trace_items h
+  calls_stood h (Starts h' history stands) m last trace_items since = absurd since
+  calls_stood h (Ends later program rest old new x y watchers left calls borne calm acted between) m last trace_items (inl opened) =
+      looked_stood first.geometry m last trace_items (view.rack.history y) later
+      (subst (λ (k : Membership). HasStood first.geometry m k trace_items (view.rack.history y)) (sym opened.1)
+      (subst (λ (trace : List TraceItem). HasStood first.geometry m m trace (view.rack.history y)) (sym opened.2)
       (record {
-        is = call_last x calls borne.over.means.story watchers (devices y borne.session left) borne.over.works calm m opened.0;
+        is = call_last x calls borne.over.means.trace watchers (devices y borne.session left) borne.over.works calm m opened.0;
         line = own_line m;
       }))) acted
-  calls_stood h (Ends later plan rest old new x y watchers left calls borne calm acted between) m last deeds (inr (inl (before, earlier, since, serves, are))) =
-      looked_stood first.geometry m last deeds (view.rack.history y) later
-      (subst (λ (story : List Deed). HasStood first.geometry m last story (view.rack.history y)) (sym are)
-      (call_stood x calls borne.over.means.story watchers (devices y borne.session left) borne.over.works calm m before last earlier
+  calls_stood h (Ends later program rest old new x y watchers left calls borne calm acted between) m last trace_items (inr (inl (before, earlier, since, serves, are))) =
+      looked_stood first.geometry m last trace_items (view.rack.history y) later
+      (subst (λ (trace : List TraceItem). HasStood first.geometry m last trace (view.rack.history y)) (sym are)
+      (call_stood x calls borne.over.means.trace watchers (devices y borne.session left) borne.over.works calm m before last earlier
       (calls_stood (view.rack.history x) calls m before earlier since) serves)) acted
-  calls_stood h (Ends later plan rest old new x y watchers left calls borne calm acted between) m last deeds (inr (inr (unwritten, since))) =
-      looked_stood first.geometry m last deeds (view.rack.history y) later
-      (looked_stood first.geometry m last deeds (view.rack.history x) (view.rack.history y)
-      (calls_stood (view.rack.history x) calls m last deeds since)
+  calls_stood h (Ends later program rest old new x y watchers left calls borne calm acted between) m last trace_items (inr (inr (unwritten, since))) =
+      looked_stood first.geometry m last trace_items (view.rack.history y) later
+      (looked_stood first.geometry m last trace_items (view.rack.history x) (view.rack.history y)
+      (calls_stood (view.rack.history x) calls m last trace_items since)
       (no_writes {allowed = any_call}
-      (works_ran view honest borne.over.means.story (devices x Begun watchers) (devices y borne.session left) borne.over.works) unwritten)) acted
-  calls_stood h (Cut c image later plan rest old new x y watchers left calls borne at calm crash acted between) m last deeds (inl (done, open_then, same, none)) =
-      let story = borne.over.means.story in
+      (works_ran view honest borne.over.means.trace (devices x Begun watchers) (devices y borne.session left) borne.over.works) unwritten)) acted
+  calls_stood h (Cut c image later program rest old new x y watchers left calls borne at calm crash acted between) m last trace_items (inl (done, open_then, same, none)) =
+      let trace = borne.over.means.trace in
       let from = devices x Begun watchers in
       let end = devices y borne.session left in
-      let works = part_works view story from end borne.over.works done open_then.here open_then.comes in
+      let works = part_works view trace from end borne.over.works done open_then.here open_then.comes in
       let kept =
-      part_calm view first.geometry (view.rack.history x) c story from end borne.over.works done open_then.here open_then.comes
+      part_calm view first.geometry (view.rack.history x) c trace from end borne.over.works done open_then.here open_then.comes
       (upto_ran {allowed = IsBehindPlaces} open_then.behind) calm in
-      let ran = ran_before {allowed = any_call} (works_ran view honest story from end borne.over.works) at in
-      looked_stood first.geometry m last deeds (Made image ∷ []) later
-      (subst (λ (k : Membership). HasStood first.geometry m k deeds (Made image ∷ [])) (sym same)
-      (subst (λ (some : List Deed). HasStood first.geometry m m some (Made image ∷ [])) (sym none)
+      let ran = ran_before {allowed = any_call} (works_ran view honest trace from end borne.over.works) at in
+      looked_stood first.geometry m last trace_items (Made image ∷ []) later
+      (subst (λ (k : Membership). HasStood first.geometry m k trace_items (Made image ∷ [])) (sym same)
+      (subst (λ (some : List TraceItem). HasStood first.geometry m m some (Made image ∷ [])) (sym none)
       (crashed m m [] c image (record {
         is = record {
           newest = call_behind x calls done watchers open_then.here works kept m open_then.opened c open_then.behind;
@@ -296,20 +296,20 @@ module _ {R W S K : Type 0} (view : DeviceView R W) (streams : Views S K) (first
         };
         line = own_line m;
       }) (history_on (life_history (view.rack.history x) calls) ran) crash))) acted
-  calls_stood h (Cut c image later plan rest old new x y watchers left calls borne at calm crash acted between) m last deeds (inr (inl (before, earlier, done, since, open_then, are))) =
-      let story = borne.over.means.story in
+  calls_stood h (Cut c image later program rest old new x y watchers left calls borne at calm crash acted between) m last trace_items (inr (inl (before, earlier, done, since, open_then, are))) =
+      let trace = borne.over.means.trace in
       let from = devices x Begun watchers in
       let end = devices y borne.session left in
-      let works = part_works view story from end borne.over.works done open_then.here open_then.comes in
+      let works = part_works view trace from end borne.over.works done open_then.here open_then.comes in
       let kept =
-      part_calm view first.geometry (view.rack.history x) c story from end borne.over.works done open_then.here open_then.comes
+      part_calm view first.geometry (view.rack.history x) c trace from end borne.over.works done open_then.here open_then.comes
       (upto_ran {allowed = IsBehindPlaces} open_then.behind) calm in
-      let ran = ran_before {allowed = any_call} (works_ran view honest story from end borne.over.works) at in
+      let ran = ran_before {allowed = any_call} (works_ran view honest trace from end borne.over.works) at in
       let stood =
       call_stood x calls done watchers open_then.here works kept m before last earlier (calls_stood (view.rack.history x) calls m before earlier since)
       open_then.opened in
-      looked_stood first.geometry m last deeds (Made image ∷ []) later
-      (subst (λ (some : List Deed). HasStood first.geometry m last some (Made image ∷ [])) (sym are)
+      looked_stood first.geometry m last trace_items (Made image ∷ []) later
+      (subst (λ (some : List TraceItem). HasStood first.geometry m last some (Made image ∷ [])) (sym are)
       (crashed m last (earlier ++ done) c image (record {
         is = record {
           newest = call_behind x calls done watchers open_then.here works kept last open_then.opened c open_then.behind;
@@ -317,67 +317,67 @@ module _ {R W S K : Type 0} (view : DeviceView R W) (streams : Views S K) (first
         };
         line = stood.line;
       }) (history_on (life_history (view.rack.history x) calls) ran) crash)) acted
-  calls_stood h (Cut c image later plan rest old new x y watchers left calls borne at calm crash acted between) m last deeds (inr (inr (unwritten, since))) =
+  calls_stood h (Cut c image later program rest old new x y watchers left calls borne at calm crash acted between) m last trace_items (inr (inr (unwritten, since))) =
       let ran =
       ran_before {allowed = any_call}
-      (works_ran view honest borne.over.means.story (devices x Begun watchers) (devices y borne.session left) borne.over.works) at in
-      looked_stood first.geometry m last deeds (Made image ∷ []) later
-      (crashed m last deeds c image
-      (looked_stood first.geometry m last deeds (view.rack.history x) c (calls_stood (view.rack.history x) calls m last deeds since)
+      (works_ran view honest borne.over.means.trace (devices x Begun watchers) (devices y borne.session left) borne.over.works) at in
+      looked_stood first.geometry m last trace_items (Made image ∷ []) later
+      (crashed m last trace_items c image
+      (looked_stood first.geometry m last trace_items (view.rack.history x) c (calls_stood (view.rack.history x) calls m last trace_items since)
       (no_writes {allowed = any_call} ran unwritten)) (history_on (life_history (view.rack.history x) calls) ran) crash) acted
 
   -- THE LAWS
 
-  pub never_stale : (h : List Happening) (calls : Calls view streams AnyReturns first h) (m last : Membership) (deeds : List Deed)
-      → StandsSince view streams first m h calls last deeds → IsNewest first.geometry last h × NoneIsAdded m last deeds
-  never_stale h calls m last deeds since = let stood = calls_stood h calls m last deeds since in (stood.is.newest, stood.line)
+  pub never_stale : (h : List Happening) (calls : Calls view streams AnyReturns first h) (m last : Membership) (trace_items : List TraceItem)
+      → StandsSince view streams first m h calls last trace_items → IsNewest first.geometry last h × NoneIsAdded m last trace_items
+  never_stale h calls m last trace_items since = let stood = calls_stood h calls m last trace_items since in (stood.is.newest, stood.line)
 
-  pub never_stale_within : (x : R) (calls : Calls view streams AnyReturns first (view.rack.history x)) (m last : Membership) (deeds story : List Deed)
-      (watchers : List W) (y : Devices R W) (works : Leads (WorksAll view) story (devices x Begun watchers) y)
-      → StandsSince view streams first m (view.rack.history x) calls last deeds
-      → IsCalmUpTo view AnyReturns first.geometry (view.rack.history x) (history_of view y) story (devices x Begun watchers) y works → (now : Membership)
-      → IsOpenBy y.session now → IsNewest first.geometry now (history_of view y) × NoneIsAdded m now (deeds ++ story)
-  never_stale_within x calls m last deeds story watchers y works since calm now serves =
-      let stood = call_stood x calls story watchers y works calm m last now deeds (calls_stood (view.rack.history x) calls m last deeds since) serves in
+  pub never_stale_within : (x : R) (calls : Calls view streams AnyReturns first (view.rack.history x)) (m last : Membership) (trace_items trace : List TraceItem)
+      (watchers : List W) (y : Devices R W) (works : AlongTrace (WorksAll view) trace (devices x Begun watchers) y)
+      → StandsSince view streams first m (view.rack.history x) calls last trace_items
+      → StaysWithinToleranceUpTo view AnyReturns first.geometry (view.rack.history x) (history_of view y) trace (devices x Begun watchers) y works → (now : Membership)
+      → IsOpenBy y.session now → IsNewest first.geometry now (history_of view y) × NoneIsAdded m now (trace_items ++ trace)
+  never_stale_within x calls m last trace_items trace watchers y works since calm now serves =
+      let stood = call_stood x calls trace watchers y works calm m last now trace_items (calls_stood (view.rack.history x) calls m last trace_items since) serves in
       (stood.is.newest, stood.line)
 
-  pub newest_is_found : (x : R) (calls : Calls view streams AnyReturns first (view.rack.history x)) (m last : Membership) (deeds story : List Deed)
-      (watchers : List W) (y : Devices R W) (works : Leads (WorksAll view) story (devices x Begun watchers) y)
-      → StandsSince view streams first m (view.rack.history x) calls last deeds
-      → IsCalmUpTo view AnyReturns first.geometry (view.rack.history x) (history_of view y) story (devices x Begun watchers) y works
+  pub newest_is_found : (x : R) (calls : Calls view streams AnyReturns first (view.rack.history x)) (m last : Membership) (trace_items trace : List TraceItem)
+      (watchers : List W) (y : Devices R W) (works : AlongTrace (WorksAll view) trace (devices x Begun watchers) y)
+      → StandsSince view streams first m (view.rack.history x) calls last trace_items
+      → StaysWithinToleranceUpTo view AnyReturns first.geometry (view.rack.history x) (history_of view y) trace (devices x Begun watchers) y works
       → (found : Membership) → y.session ≡ Found found → found.array ≡ last.array
-  newest_is_found x calls m last deeds story watchers y works since calm found is_found =
-      call_found x calls story watchers y works calm last (calls_stood (view.rack.history x) calls m last deeds since).is.newest found is_found
+  newest_is_found x calls m last trace_items trace watchers y works since calm found is_found =
+      call_found x calls trace watchers y works calm last (calls_stood (view.rack.history x) calls m last trace_items since).is.newest found is_found
 
   -- MEDIA
 
   -- a medium that the earlier member leaves out the later one leaves out too
-  out_since : (m last : Membership) (deeds : List Deed) (h : List Happening) (j : ℕ) (name : Location) → NoneIsAdded m last deeds → ¬ IsReplacedIn j deeds
+  out_since : (m last : Membership) (trace_items : List TraceItem) (h : List Happening) (j : ℕ) (name : Location) → NoneIsAdded m last trace_items → ¬ IsReplacedIn j trace_items
       → IsLeftOut first.geometry m h j name → IsLeftOut first.geometry last h j name
-  out_since m last deeds h j name line none out image left p medium is called s bears meant =
+  out_since m last trace_items h j name line none out image left p medium is called s bears meant =
       elim (line j meant.here) [
         | inl was ↦ out image left p medium is called s bears (record { here = was.here; number = meant.number ∙ was.number })
         | inr replaced ↦ none replaced
       ]
 
-  pub media_stay_out : (h : List Happening) (calls : Calls view streams AnyReturns first h) (m last : Membership) (deeds : List Deed)
-      → StandsSince view streams first m h calls last deeds → (later : List Happening) (j : ℕ) (name : Location) → ¬ IsReplacedIn j deeds
+  pub media_stay_out : (h : List Happening) (calls : Calls view streams AnyReturns first h) (m last : Membership) (trace_items : List TraceItem)
+      → StandsSince view streams first m h calls last trace_items → (later : List Happening) (j : ℕ) (name : Location) → ¬ IsReplacedIn j trace_items
       → IsLeftOut first.geometry m h j name → Ran no_write h later → IsNeverLive first.geometry later j name
-  media_stay_out h calls m last deeds since later j name none out looks =
-      let stood = calls_stood h calls m last deeds since in
-      left_out_stays first.geometry last h later j name (life_history h calls) stood.is.newest looks (out_since m last deeds h j name stood.line none out)
+  media_stay_out h calls m last trace_items since later j name none out looks =
+      let stood = calls_stood h calls m last trace_items since in
+      left_out_stays first.geometry last h later j name (life_history h calls) stood.is.newest looks (out_since m last trace_items h j name stood.line none out)
 
-  pub media_stay_out_within : (x : R) (calls : Calls view streams AnyReturns first (view.rack.history x)) (m last : Membership) (deeds story : List Deed)
-      (watchers : List W) (y : Devices R W) (works : Leads (WorksAll view) story (devices x Begun watchers) y)
-      → StandsSince view streams first m (view.rack.history x) calls last deeds
-      → IsCalmUpTo view AnyReturns first.geometry (view.rack.history x) (history_of view y) story (devices x Begun watchers) y works → (now : Membership)
-      → IsOpenBy y.session now → (j : ℕ) (name : Location) → ¬ IsReplacedIn j (deeds ++ story) → IsLeftOut first.geometry m (history_of view y) j name
+  pub media_stay_out_within : (x : R) (calls : Calls view streams AnyReturns first (view.rack.history x)) (m last : Membership) (trace_items trace : List TraceItem)
+      (watchers : List W) (y : Devices R W) (works : AlongTrace (WorksAll view) trace (devices x Begun watchers) y)
+      → StandsSince view streams first m (view.rack.history x) calls last trace_items
+      → StaysWithinToleranceUpTo view AnyReturns first.geometry (view.rack.history x) (history_of view y) trace (devices x Begun watchers) y works → (now : Membership)
+      → IsOpenBy y.session now → (j : ℕ) (name : Location) → ¬ IsReplacedIn j (trace_items ++ trace) → IsLeftOut first.geometry m (history_of view y) j name
       → IsNeverLive first.geometry (history_of view y) j name
-  media_stay_out_within x calls m last deeds story watchers y works since calm now serves j name none out =
-      let stood = call_stood x calls story watchers y works calm m last now deeds (calls_stood (view.rack.history x) calls m last deeds since) serves in
-      let was = history_on (life_history (view.rack.history x) calls) (works_ran view honest story (devices x Begun watchers) y works) in
+  media_stay_out_within x calls m last trace_items trace watchers y works since calm now serves j name none out =
+      let stood = call_stood x calls trace watchers y works calm m last now trace_items (calls_stood (view.rack.history x) calls m last trace_items since) serves in
+      let was = history_on (life_history (view.rack.history x) calls) (works_ran view honest trace (devices x Begun watchers) y works) in
       left_out_stays first.geometry now (history_of view y) (history_of view y) j name was stood.is.newest (ran_none (history_of view y))
-      (out_since m now (deeds ++ story) (history_of view y) j name stood.line none out)
+      (out_since m now (trace_items ++ trace) (history_of view y) j name stood.line none out)
 
   -- ONE NAME FOR EACH
 
@@ -397,12 +397,12 @@ module _ {R W S K : Type 0} (view : DeviceView R W) (streams : Views S K) (first
   once_alone s c image same was left stands =
       once_of s (Made image ∷ []) same stands image (left_there image (left_past_end c (history_tidy was) image left))
 
-  pub all_name_once_within : (plan rest : Plan) (old new : Outside S K) (x y : R) (watchers left : List W) (c : List Happening)
-      → Calls view streams AnyReturns first (view.rack.history x) → (borne : IsBorneOut view streams plan rest old new x y watchers left)
+  pub all_name_once_within : (program rest : Program) (old new : Outside S K) (x y : R) (watchers left : List W) (c : List Happening)
+      → Calls view streams AnyReturns first (view.rack.history x) → (borne : RefinesProgram view streams program rest old new x y watchers left)
       → IsMoment (view.rack.history x) c (view.rack.history y)
-      → IsCalmUpTo view AnyReturns first.geometry (view.rack.history x) c borne.over.means.story (devices x Begun watchers)
+      → StaysWithinToleranceUpTo view AnyReturns first.geometry (view.rack.history x) c borne.over.means.trace (devices x Begun watchers)
       (devices y borne.session left) borne.over.works → EachImage (NamesOnce first.geometry) c
-  all_name_once_within plan rest old new x y watchers left c calls borne at calm image crash =
+  all_name_once_within program rest old new x y watchers left c calls borne at calm image crash =
       elim (safe.images image crash) [
         | inl stands ↦ once_alone safe.state c image run_geometry was crash stands
         | inr cut ↦ once_alone cut.left.state c image (cut_geometry cut.left.cut.within ∙ run_geometry) was crash cut.left.stands
@@ -418,14 +418,14 @@ module _ {R W S K : Type 0} (view : DeviceView R W) (streams : Views S K) (first
       was =
           history_on (life_history (view.rack.history x) calls)
           (ran_before {allowed = any_call}
-          (works_ran view honest borne.over.means.story (devices x Begun watchers) (devices y borne.session left) borne.over.works) at)
+          (works_ran view honest borne.over.means.trace (devices x Begun watchers) (devices y borne.session left) borne.over.works) at)
 
-      safe : IsSafe view AnyReturns (view.rack.history x) (without_seats lived.state) plan borne.over.means.story (devices x Begun watchers)
+      safe : IsSafe view AnyReturns (view.rack.history x) (without_seats lived.state) program borne.over.means.trace (devices x Begun watchers)
           (devices y borne.session left) c
       safe =
           borne.wherever.cuts honest lived.state c (life_history (view.rack.history x) calls) lived.stands at
           (subst
-          (λ (g : Geometry). IsCalmUpTo view AnyReturns g (view.rack.history x) c borne.over.means.story (devices x Begun watchers)
+          (λ (g : Geometry). StaysWithinToleranceUpTo view AnyReturns g (view.rack.history x) c borne.over.means.trace (devices x Begun watchers)
           (devices y borne.session left) borne.over.works) (sym same) calm)
 
       run_geometry : safe.state.geometry ≡ first.geometry

@@ -7,7 +7,7 @@ use Rattle.stair_rack.specs.Answers.{IsHistory, Ran, any_call}
 use Rattle.stair_rack.specs.Crash.{CrashMayLeave, SlotMayLeave}
 use Rattle.stair_rack.specs.History.{Happening, Made, SlotState, slot_state}
 use Rattle.stair_rack.specs.Media.{Image, SlotImage}
-use Rattle.stair_rack.specs.Telling.{Telling}
+use Rattle.stair_rack.specs.RackState.{RackState}
 use Rattle.stair_rack.proofs.MomentLemmas.{ran_none}
 use Rattle.stair_rack.proofs.TidyLemmas.{history_tidy, left_past_end}
 use Rattle.stair_super.specs.Superblock.{Superblock}
@@ -26,13 +26,13 @@ use Rattle.stair_state.proofs.DegradedLemmas.{bears_before, copies_again, copies
 use Rattle.stair_state.proofs.FormLemmas.{good_whole}
 use Rattle.stair_state.proofs.OutsideLemmas.{slot_now, slot_now_left, unwritten_ran}
 use Rattle.stair_state.proofs.ReturnLemmas.{MediaCameFrom, New, Same, at_image, came_looking}
-use Rattle.stair_session.specs.Mixed.{IsToleratedMixed}
-use Rattle.stair_session.specs.Returning.{KnowsMedia}
-use Rattle.stair_return.specs.Following.{AreOfNamed, Blank, Kept}
-use Rattle.stair_return.proofs.MixedImages.{mixed_reassembly}
-use Rattle.stair_return.proofs.StaleLemmas.{live_meant, newest_current}
-use Rattle.stair_return.proofs.SurveyLemmas.{current_together, history, ran, together, together_mixed}
-use Rattle.stair_return.proofs.WhereverLemmas.{looked_wherever}
+use Rattle.stair_invariant.specs.Mixed.{IsToleratedMixed}
+use Rattle.stair_invariant.specs.Returning.{KnowsMedia}
+use Rattle.stair_reinsert.specs.Following.{AreOfNamed, Blank, Kept}
+use Rattle.stair_reinsert.proofs.MixedImages.{mixed_reassembly}
+use Rattle.stair_reinsert.proofs.StaleLemmas.{live_meant, newest_current}
+use Rattle.stair_reinsert.proofs.SurveyLemmas.{current_together, history, ran, together, together_mixed}
+use Rattle.stair_reinsert.proofs.WhereverLemmas.{looked_wherever}
 use Rattle.stair_lives.specs.Stale.{IsLeftOut, IsMeant, IsNeverLive, IsNewest}
 
 -- WHILE IT IS ONLY LOOKED AT
@@ -102,7 +102,7 @@ knows_newest s m h knows same = record {
 
 -- A SURVEY
 
-pub found_newest : (g : Geometry) (m : Membership) (array : Configuration) (first u : Telling) → Surveys (Ok m) first u → IsTrue u.honest
+pub found_newest : (g : Geometry) (m : Membership) (array : Configuration) (first u : RackState) → Surveys (Ok m) first u → IsTrue u.honest
     → NamesNewest g array first.history → IsToleratedMixed g first.history first.history u.history → m.array ≡ array
 found_newest g m array first u surveys honest newest mixed =
     let began = ran_none {allowed = any_call} first.history in

@@ -5,7 +5,7 @@ use Rattle.std.specs.Prelude.{IsSome, IsTrue}
 use Rattle.stair_model.specs.Geometry.{Geometry, block_count}
 use Rattle.stair_rack.specs.Answers.{IsHistory, Ran, any_call}
 use Rattle.stair_rack.specs.History.{Attach, Happening, Read, Sectors, SlotCall, Sync, Write}
-use Rattle.stair_rack.specs.Telling.{Telling}
+use Rattle.stair_rack.specs.RackState.{RackState}
 use Rattle.stair_rack.specs.declared.watcher.Event.{Event}
 use Rattle.stair_rack.proofs.MomentLemmas.{ran_none, ran_weakened}
 use Rattle.stair_rack.proofs.TidyLemmas.{history_on}
@@ -20,21 +20,21 @@ use Rattle.stair_state.specs.Represents.{no_write}
 use Rattle.stair_state.specs.State.{Content, State}
 use Rattle.stair_state.proofs.OutsideLemmas.{unwritten_ran}
 use Rattle.stair_state.proofs.ReturnLemmas.{looked_consistent}
-use Rattle.stair_session.specs.Mixed.{IsToleratedMixed}
-use Rattle.stair_session.specs.Returning.{AnyReturns, IsCalm, IsCalmUnread}
-use Rattle.stair_session.specs.SeatSteps.{EachMayDrop}
-use Rattle.stair_session.specs.Session.{ArrayState, IsLiveIn, seats_in}
+use Rattle.stair_invariant.specs.Mixed.{IsToleratedMixed}
+use Rattle.stair_invariant.specs.Returning.{AnyReturns, StaysWithinTolerance, StaysWithinToleranceUnread}
+use Rattle.stair_invariant.specs.SeatSteps.{EachMayDrop}
+use Rattle.stair_invariant.specs.Session.{ArrayState, IsLiveIn, seats_in}
 use Rattle.stair_array.specs.Machine.{Answer, EpochsSpent, IsDecided, ReadBlock, Recover, Refusal, ReplaceSlot, Step}
-use Rattle.stair_array.specs.Promise.{Ends, EndsIn, Found, GoesOn, IsInState, IsLed, IsOpenFor, LeadsStep, Opened, Performs, Seen, ServesState, Session, is_open}
+use Rattle.stair_array.specs.Promise.{Ends, EndsIn, Found, GoesOn, IsInState, IsLed, IsOpenFor, LeadsStep, Opened, Performs, Seen, ServesState, Phase, is_open}
 use Rattle.stair_array.proofs.ReadDoneLemmas as read
 use Rattle.stair_array.proofs.RecoverLemmas as recover
 use Rattle.stair_array.proofs.StepsLead.{promises}
-use Rattle.stair_return.specs.Misled.{five}
-use Rattle.stair_return.specs.Still.{IsStill}
-use Rattle.stair_return.proofs.AnyReturnsLead.{any_returns_leads}
-use Rattle.stair_return.proofs.OpeningsLead.{openings_lead}
-use Rattle.stair_return.proofs.ReadsLead.{reads_lead}
-use Rattle.stair_return.proofs.SurveyLemmas as survey
+use Rattle.stair_reinsert.specs.Misled.{five}
+use Rattle.stair_reinsert.specs.Still.{IsStill}
+use Rattle.stair_reinsert.proofs.AnyReturnsLead.{any_returns_leads}
+use Rattle.stair_reinsert.proofs.OpeningsLead.{openings_lead}
+use Rattle.stair_reinsert.proofs.ReadsLead.{reads_lead}
+use Rattle.stair_reinsert.proofs.SurveyLemmas as survey
 use Rattle.stair_reinsert_examples.proofs.FiveConsistent.{zeros}
 use Rattle.stair_lives.specs.Example.{EachOpensAmid, EachOpensWithout, HaveAllBut, OpensWithout, ReadsWithout, made_without, reinserted}
 use Rattle.stair_lives.specs.Stale.{HasMember, ReadsBehind}
@@ -73,11 +73,11 @@ module _ (words : Codewords) (s : State) (y : Seen) (a : ArrayState) (geometry :
     (history : IsHistory y.told.history) (is_in : IsInState AnyReturns (reinserted words) s y) (is_opened : y.session ≡ Opened a)
     (out : ¬ IsHere a.member 3) where
   module _ (b : ℕ) (answer : Answer (ReadBlock b)) (events : List Event) (z : Seen) (p : Performs (ReadBlock b) answer events y z)
-      (honest : IsTrue z.told.honest) (calm : IsCalm AnyReturns five true (reinserted words) z.told.history) (below : b < block_count five) where
-    kept_calm : IsCalm AnyReturns s.geometry (is_open y.session) (reinserted words) z.told.history
+      (honest : IsTrue z.told.honest) (calm : StaysWithinTolerance AnyReturns five true (reinserted words) z.told.history) (below : b < block_count five) where
+    kept_calm : StaysWithinTolerance AnyReturns s.geometry (is_open y.session) (reinserted words) z.told.history
     kept_calm =
-        subst (λ (session : Session). IsCalm AnyReturns s.geometry (is_open session) (reinserted words) z.told.history) (sym is_opened)
-        (subst (λ (g : Geometry). IsCalm AnyReturns g true (reinserted words) z.told.history) (sym geometry) calm)
+        subst (λ (session : Phase). StaysWithinTolerance AnyReturns s.geometry (is_open session) (reinserted words) z.told.history) (sym is_opened)
+        (subst (λ (g : Geometry). StaysWithinTolerance AnyReturns g true (reinserted words) z.told.history) (sym geometry) calm)
 
     leads_by : LeadsStep AnyReturns p.was.member (ReadBlock b) answer y z
     leads_by = promises AnyReturns any_returns_leads (ReadBlock b) answer events y z p (λ same. cc)
@@ -99,15 +99,15 @@ module _ (words : Codewords) (s : State) (y : Seen) (a : ArrayState) (geometry :
     reads_none : Ran (ReadsBehind (λ j. j ≢ 3)) y.told.history z.told.history
     reads_none =
         none_of_three (ReadBlock b) answer events y z a.member p honest
-        (subst (λ (session : Session). HasMember session a.member) (sym is_opened) refl) (λ j same. cc) out
+        (subst (λ (session : Phase). HasMember session a.member) (sym is_opened) refl) (λ j same. cc) out
 
 -- THE OPENING
 
-module _ (words now : Codewords) (encoded : AreEncodingsOf five zero_blocks now) (agree : HaveAllBut now words) (first found : Telling)
+module _ (words now : Codewords) (encoded : AreEncodingsOf five zero_blocks now) (agree : HaveAllBut now words) (first found : RackState)
     (m : Membership) (answer : Answer Recover) (events : List Event) (y : Seen) (begins : first.history ≡ reinserted words)
     (honest : IsTrue found.honest) (still : IsStill first.history found.history) (surveys : Surveys (Ok m) first found) (rules : IsMembership m)
     (p : Performs Recover answer events (record { told = found; session = Found m }) y) (told : IsTrue y.told.honest)
-    (calm : IsCalm AnyReturns five false (reinserted words) y.told.history) where
+    (calm : StaysWithinTolerance AnyReturns five false (reinserted words) y.told.history) where
   abbrev x : Seen
   x = record { told = found; session = Found m }
 
@@ -150,7 +150,7 @@ module _ (words now : Codewords) (encoded : AreEncodingsOf five zero_blocks now)
   reads : Ran (ReadsBehind (λ j. j ≢ 3)) found.history y.told.history
   reads = none_of_three Recover answer events x y m p told refl (λ j at. cc) out
 
-  spent : IsCalmUnread AnyReturns five false (reinserted words) y.told.history → (refusal : Refusal) → answer ≡ Err refusal → refusal ≡ EpochsSpent
+  spent : StaysWithinToleranceUnread AnyReturns five false (reinserted words) y.told.history → (refusal : Refusal) → answer ≡ Err refusal → refusal ≡ EpochsSpent
   spent unread refusal at =
       recover.only_spent AnyReturns openings_lead answer events x y p (subst (λ (a : ArrayState). IsMembership a.member) (sym p.starts) rules) told
       (reinserted words) zeros is_in calm unread refusal at
@@ -164,7 +164,7 @@ module _ (words now : Codewords) (encoded : AreEncodingsOf five zero_blocks now)
   after (Err refusal) a ends done g at = absurd (cc)
   after (Ok given) a (Ends opens err closed) done g at = absurd (false≢true err)
   after (Ok given) a (GoesOn opens keeps is_opened) done g at =
-      by (subst (λ (session : Session). ServesState AnyReturns (reinserted words) done.state session y.told) is_opened done.is_in.serves)
+      by (subst (λ (session : Phase). ServesState AnyReturns (reinserted words) done.state session y.told) is_opened done.is_in.serves)
     where
       some_not : a.stopped ≡ None → IsSome a.stopped → ⊥
       some_not none some = cc

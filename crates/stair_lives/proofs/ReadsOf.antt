@@ -12,44 +12,44 @@ use Rattle.stair_rack.specs.Reading.{IsReadOf}
 use Rattle.stair_rack.specs.declared.rack.Reply.{Reply}
 use Rattle.stair_super.specs.declared.configuration.Configuration.{Configuration}
 use Rattle.stair_rack.proofs.MomentLemmas.{calls_ran, ran_join, ran_none, ran_weakened}
-use Rattle.stair_rack.specs.Telling.{Telling}
+use Rattle.stair_rack.specs.RackState.{RackState}
 use Rattle.stair_member.specs.Editions.{Edition}
 use Rattle.stair_member.specs.Epochs.{ASync, AWrite, IsIssuing}
 use Rattle.stair_member.specs.Establishing.{Establishes, Fences, refusal_of}
 use Rattle.stair_member.specs.Membership.{Membership, why_of}
-use Rattle.stair_member.specs.declared.aim.Aim.{Aim}
+use Rattle.stair_member.specs.declared.aim.EpochChange.{EpochChange}
 use Rattle.stair_member.specs.declared.fault.FenceFault.{FenceFault}
 use Rattle.stair_member.specs.declared.why.Why.TheVariants.{Gone, Here}
 use Rattle.stair_member.proofs.CountingLemmas.{has_or_not}
-use Rattle.stair_session.specs.Courses as course
-use Rattle.stair_session.specs.Courses.{AreLive, DoesStage, FindsBody, FindsRedo, LeavesOut, Loads, Point, Redoes, Replays, point}
-use Rattle.stair_session.specs.Session.{ArrayState, IsLiveIn, Remembered}
-use Rattle.stair_session.proofs.HonestLemmas.{found_honest, left_honest, load_honest, redo_honest, replay_honest}
+use Rattle.stair_invariant.specs.Effects as course
+use Rattle.stair_invariant.specs.Effects.{AreLive, DoesStage, FindsBody, FindsRedo, FencesGone, Loads, Snapshot, Redoes, Replays, snapshot}
+use Rattle.stair_invariant.specs.Session.{ArrayState, IsLiveIn, Remembered}
+use Rattle.stair_invariant.proofs.HonestLemmas.{found_honest, left_honest, load_honest, redo_honest, replay_honest}
 use Rattle.stair_array.specs.Calls as calls
 use Rattle.stair_array.specs.Mends as mends
 use Rattle.stair_array.specs.Openings as opening
 use Rattle.stair_array.specs.Calls.{AsksFor, CannotHave, LoadsStripe, Prepares, Reads, WritesBlocks}
 use Rattle.stair_array.specs.Machine.{Answer, LookAtSeats, Progress, ReadBlock, RebuildNext, Recover, Refusal, ReplaceSlot, ScrubStripe, SetFrozen, SetLabel, Step, WriteBlocks}
-use Rattle.stair_array.specs.Mends.{Drops, IsPreparing, Looks, OnlyPrepared, PreparesSlot, Promotes, Rebuilds, Replaces, Scrubs, SyncsSlot, WritesChunk}
+use Rattle.stair_array.specs.Mends.{FencesSlot, IsPreparing, Looks, OnlyPrepared, PreparesSlot, Promotes, Rebuilds, Replaces, Scrubs, SyncsSlot, WritesChunk}
 use Rattle.stair_array.specs.Openings.{ClearsJournal, Recovers}
-use Rattle.stair_array.specs.Promise.{Does, Found, Opened, Seen, Session, StartsFrom}
+use Rattle.stair_array.specs.Promise.{Does, Found, Opened, Seen, Phase, StartsFrom}
 use Rattle.stair_array.proofs.OutLemmas.{left_live}
 use Rattle.stair_array.proofs.ReadPartLemmas.{asked_ran}
 use Rattle.stair_array.proofs.RecoveredLemmas.{cleared_honest}
 use Rattle.stair_lives.specs.Stale.{HasMember, OnlyLiveAreRead, ReadsBehind}
 
 module _ (Some_slots : ℕ → Type 0) where
-  abbrev Only : Telling → Telling → Type 0
+  abbrev Only : RackState → RackState → Type 0
   Only old new = Ran (ReadsBehind Some_slots) old.history new.history
 
   -- each live slot is one of them
   abbrev Has : Membership → Type 0
   Has m = (j : ℕ) → IsLiveIn m j → Some_slots j
 
-  only_same : {x y : Point} → y ≡ x → Only x.told y.told
-  only_same {x} {y} same = subst (λ (p : Point). Only x.told p.told) (sym same) (ran_none x.told.history)
+  only_same : {x y : Snapshot} → y ≡ x → Only x.told y.told
+  only_same {x} {y} same = subst (λ (p : Snapshot). Only x.told p.told) (sym same) (ran_none x.told.history)
 
-  only_none : (x : Point) → Only x.told x.told
+  only_none : (x : Snapshot) → Only x.told x.told
   only_none x = ran_none x.told.history
 
   write_only : (what : Writes) (to : ℕ → Type 0) (j : ℕ) (call : SlotCall) → IsWriteOf what to j call → ReadsBehind Some_slots j call
@@ -73,15 +73,15 @@ module _ (Some_slots : ℕ → Type 0) where
   placed_only : {what : Writes} {to gone : ℕ → Type 0} {old new : List Happening} → Placed what to gone old new → Ran (ReadsBehind Some_slots) old new
   placed_only {what} {to} placed = ran_join (ran_weakened (write_only what to) placed.writes) (ran_weakened (sync_only to) placed.syncs)
 
-  established_only : {aim : Aim} {m last : Membership} {refusal : Option FenceFault} {old new : Telling} → Establishes aim m last refusal old new
+  established_only : {aim : EpochChange} {m last : Membership} {refusal : Option FenceFault} {old new : RackState} → Establishes aim m last refusal old new
       → IsTrue new.honest → Only old new
   established_only does honest = let issued = does.issued honest in ran_weakened (issue_only issued.slots issued.editions) issued.ran
 
-  left_only : {gone : Slots} {refusal : Option FenceFault} {x y : Point} → LeavesOut gone refusal x y → IsTrue y.told.honest → Only x.told y.told
+  left_only : {gone : Slots} {refusal : Option FenceFault} {x y : Snapshot} → FencesGone gone refusal x y → IsTrue y.told.honest → Only x.told y.told
   left_only (course.NoneWas none same quiet) honest = only_same same
   left_only (course.Fenced j has answer is fences) honest = established_only fences.establishes honest
 
-  has_left : {gone : Slots} {x y : Point} → LeavesOut gone None x y → Has x.member → Has y.member
+  has_left : {gone : Slots} {x y : Snapshot} → FencesGone gone None x y → Has x.member → Has y.member
   has_left {gone} {x} {y} leaves has j live = has j (left_live gone x y j leaves live)
 
   among_live : (m : Membership) (live : Slots) → AreLive m live → Has m → (j : ℕ) → HasSlot live j → Some_slots j
@@ -89,12 +89,12 @@ module _ (Some_slots : ℕ → Type 0) where
 
   -- PARTS OF A STEP
 
-  stage_only : {what : Writes} {to : Slots} {refusal : Option FenceFault} {x y : Point} → (does : DoesStage what to refusal x y) → IsTrue y.told.honest
+  stage_only : {what : Writes} {to : Slots} {refusal : Option FenceFault} {x y : Snapshot} → (does : DoesStage what to refusal x y) → IsTrue y.told.honest
       → Only x.told y.told
   stage_only does honest =
       ran_join (placed_only (does.phase.placed (subst IsTrue (sym (left_honest _ _ _ _ does.leaves)) honest))) (left_only does.leaves honest)
 
-  loaded_only : {t : ℕ} {wanted : ℕ → ℕ → Type 0} {gathered : _} {was into : Stripe} {refusal : Option FenceFault} {x y : Point}
+  loaded_only : {t : ℕ} {wanted : ℕ → ℕ → Type 0} {gathered : _} {was into : Stripe} {refusal : Option FenceFault} {x y : Snapshot}
       → (loads : Loads t wanted gathered was into refusal x y) → Has x.member → IsTrue y.told.honest → Only x.told y.told
   loaded_only {x = x} loads has honest =
       ran_join
@@ -103,11 +103,11 @@ module _ (Some_slots : ℕ → Type 0) where
       (loads.gathers.ran (subst IsTrue (sym (left_honest _ _ _ _ loads.leaves)) honest)))
       (left_only loads.leaves honest)
 
-  has_loaded : {t : ℕ} {wanted : ℕ → ℕ → Type 0} {gathered : _} {was into : Stripe} {x y : Point}
+  has_loaded : {t : ℕ} {wanted : ℕ → ℕ → Type 0} {gathered : _} {was into : Stripe} {x y : Snapshot}
       → (loads : Loads t wanted gathered was into None x y) → Has x.member → Has y.member
   has_loaded loads has = has_left loads.leaves has
 
-  body_only : {redo : _} {body : _} {was into : Stripe} {refusal : Option FenceFault} {x y : Point}
+  body_only : {redo : _} {body : _} {was into : Stripe} {refusal : Option FenceFault} {x y : Snapshot}
       → (finds : FindsBody redo body was into refusal x y) → Has x.member → IsTrue y.told.honest → Only x.told y.told
   body_only {x = x} finds has honest =
       ran_join
@@ -115,14 +115,14 @@ module _ (Some_slots : ℕ → Type 0) where
       (finds.reads.ran (subst IsTrue (sym (left_honest _ _ _ _ finds.leaves)) honest)))
       (left_only finds.leaves honest)
 
-  redo_only : {array : Geometry} {redo : _} {stripe : Stripe} {s : _} {refusal : Option FenceFault} {x y : Point}
+  redo_only : {array : Geometry} {redo : _} {stripe : Stripe} {s : _} {refusal : Option FenceFault} {x y : Snapshot}
       → (does : Redoes array redo stripe s refusal x y) → IsTrue y.told.honest → Only x.told y.told
   redo_only (course.Ends x) honest = only_none x
   redo_only (course.Goes s to refusal x y z apart over does rest) honest =
       ran_join (stage_only does (subst IsTrue (sym (redo_honest _ _ _ _ _ _ _ rest)) honest)) (redo_only rest honest)
   redo_only (course.Stops s to fault x y apart over does) honest = stage_only does honest
 
-  found_only : {redo : Option _} {opened : Slots} {refusal : Option FenceFault} {x y : Point}
+  found_only : {redo : Option _} {opened : Slots} {refusal : Option FenceFault} {x y : Snapshot}
       → (finds : FindsRedo redo opened refusal x y) → Has x.member → IsTrue y.told.honest → Only x.told y.told
   found_only (course.Found gates live mid x are reads none) has honest =
       ran_weakened (read_only _ _ (among_live x.member live are has)) (reads.ran honest)
@@ -137,7 +137,7 @@ module _ (Some_slots : ℕ → Type 0) where
       (ran_weakened (read_only _ _ (among_live x.member live are has)) (reads.ran (subst IsTrue (sym (left_honest _ _ _ _ leaves)) honest)))
       (left_only leaves honest)
 
-  has_found : {redo : Option _} {opened : Slots} {refusal : Option FenceFault} {x y : Point} → (finds : FindsRedo redo opened refusal x y)
+  has_found : {redo : Option _} {opened : Slots} {refusal : Option FenceFault} {x y : Snapshot} → (finds : FindsRedo redo opened refusal x y)
       → refusal ≡ None → Has x.member → Has y.member
   has_found (course.Found gates live mid x are reads none) fine has = has
   has_found (course.Again gates live mid redo opened refusal j x y z are reads gone leaves rest) fine has =
@@ -145,13 +145,13 @@ module _ (Some_slots : ℕ → Type 0) where
   has_found (course.Stops gates live mid redo opened fault x y are reads leaves) fine has =
       let never : Some fault ≡ None = fine in absurd (cc)
 
-  replayed_only : {redo : _} {stripe : Stripe} {opened : Slots} {refusal : Option FenceFault} {x y : Point}
+  replayed_only : {redo : _} {stripe : Stripe} {opened : Slots} {refusal : Option FenceFault} {x y : Snapshot}
       → (does : Replays redo stripe opened refusal x y) → IsTrue y.told.honest → Only x.told y.told
   replayed_only (course.Goes to refusal x y z are does rest) honest =
       ran_join (stage_only does (subst IsTrue (sym (redo_honest _ _ _ _ _ _ _ rest)) honest)) (redo_only rest honest)
   replayed_only (course.Stops to fault x y are does) honest = stage_only does honest
 
-  cleared_only : {redo : Option _} {opened : Slots} {answer : Result Geometry Refusal} {x y : Point}
+  cleared_only : {redo : Option _} {opened : Slots} {answer : Result Geometry Refusal} {x y : Snapshot}
       → (clears : ClearsJournal redo opened answer x y) → Has x.member → IsTrue y.told.honest → Only x.told y.told
   cleared_only (opening.Closes opened live refusal x y are does) has honest = stage_only does honest
   cleared_only (opening.Stops redo opened body was stripe fault x y finds) has honest = body_only finds has honest
@@ -160,7 +160,7 @@ module _ (Some_slots : ℕ → Type 0) where
       ran_join (body_only finds has (subst IsTrue (sym (replay_honest _ _ _ _ _ _ again)) honest)) (replayed_only again honest)
 
   -- once an epoch stands without some slots, what is live was live before
-  has_fenced : {leaving : Slots} {m last : Membership} {answer : Result Slots FenceFault} {old new : Telling}
+  has_fenced : {leaving : Slots} {m last : Membership} {answer : Result Slots FenceFault} {old new : RackState}
       → (e : Fences leaving m last answer old new) → refusal_of answer ≡ None → Has m → Has last
   has_fenced {leaving} {m} {last} e stands has j live = has j (record { below = below; why = before })
     where
@@ -184,7 +184,7 @@ module _ (Some_slots : ℕ → Type 0) where
             | inr kept ↦ sym (e.leaves.others j kept) ∙ started
           ]
 
-  opened_only : {answer : Result Geometry Refusal} {x y : Point} → (does : Recovers answer x y) → Has x.member → IsTrue y.told.honest → Only x.told y.told
+  opened_only : {answer : Result Geometry Refusal} {x y : Snapshot} → (does : Recovers answer x y) → Has x.member → IsTrue y.told.honest → Only x.told y.told
   opened_only (opening.NoEpoch fault x y fences) has honest = established_only fences.establishes honest
   opened_only (opening.Stops fallen opened redo fault x y z fences found) has honest =
       let honest_y : IsTrue y.told.honest = subst IsTrue (sym (found_honest _ _ _ _ _ found)) honest in
@@ -196,31 +196,31 @@ module _ (Some_slots : ℕ → Type 0) where
       ran_join (ran_join (established_only fences.establishes honest_y) (found_only found has_y honest_z))
       (cleared_only cleared (has_found found refl has_y) honest)
 
-  stripe_only : {t : ℕ} {into : Stripe} {answer : Result (Unit {0}) Refusal} {x y : Point} → (does : LoadsStripe t into answer x y) → Has x.member
+  stripe_only : {t : ℕ} {into : Stripe} {answer : Result (Unit {0}) Refusal} {x y : Snapshot} → (does : LoadsStripe t into answer x y) → Has x.member
       → IsTrue y.told.honest → Only x.told y.told
   stripe_only (calls.Loaded was read gathered answer x y loads restored) has honest = loaded_only loads has honest
   stripe_only (calls.Stops was read gathered fault x y loads) has honest = loaded_only loads has honest
 
-  stripe_honest : {t : ℕ} {into : Stripe} {answer : Result (Unit {0}) Refusal} {x y : Point} → LoadsStripe t into answer x y
+  stripe_honest : {t : ℕ} {into : Stripe} {answer : Result (Unit {0}) Refusal} {x y : Snapshot} → LoadsStripe t into answer x y
       → x.told.honest ≡ y.told.honest
   stripe_honest (calls.Loaded was read gathered answer x y loads restored) = load_honest _ _ _ _ _ _ _ _ loads
   stripe_honest (calls.Stops was read gathered fault x y loads) = load_honest _ _ _ _ _ _ _ _ loads
 
-  asked_only : {t i j : ℕ} {answer : _} {x y : Point} → AsksFor t i j answer x y → Has x.member → IsTrue y.told.honest → Only x.told y.told
+  asked_only : {t i j : ℕ} {answer : _} {x y : Snapshot} → AsksFor t i j answer x y → Has x.member → IsTrue y.told.honest → Only x.told y.told
   asked_only {j = j} asks has honest =
       ran_weakened (read_only _ _ (λ s same. subst Some_slots (sym same) (has j asks.live))) (asked_ran _ _ _ _ _ asks honest)
 
-  without_only : {t i j : ℕ} {x y : Point} → CannotHave t i j x y → Has x.member → IsTrue y.told.honest → Only x.told y.told
+  without_only : {t i j : ℕ} {x y : Snapshot} → CannotHave t i j x y → Has x.member → IsTrue y.told.honest → Only x.told y.told
   without_only (calls.NotLive away same) has honest = only_same same
   without_only (calls.WasBad asks reading) has honest = asked_only asks has honest
   without_only (calls.WasGone asks gone) has honest = asked_only asks has honest
 
-  has_without : {t i j : ℕ} {x y : Point} → CannotHave t i j x y → Has x.member → Has y.member
-  has_without (calls.NotLive away same) has = subst (λ (p : Point). Has p.member) (sym same) has
+  has_without : {t i j : ℕ} {x y : Snapshot} → CannotHave t i j x y → Has x.member → Has y.member
+  has_without (calls.NotLive away same) has = subst (λ (p : Snapshot). Has p.member) (sym same) has
   has_without (calls.WasBad asks reading) has = subst Has (sym asks.member) has
   has_without (calls.WasGone asks gone) has = subst Has (sym asks.member) has
 
-  read_step : {b : ℕ} {old after : Option Remembered} {answer : Result (List ℕ) Refusal} {x y : Point} → (does : Reads b old after answer x y)
+  read_step : {b : ℕ} {old after : Option Remembered} {answer : Result (List ℕ) Refusal} {x y : Snapshot} → (does : Reads b old after answer x y)
       → Has x.member → IsTrue y.told.honest → Only x.told y.told
   read_step (calls.OutOf x past) has honest = only_none x
   read_step (calls.Recalled one i j x known place) has honest = only_none x
@@ -230,7 +230,7 @@ module _ (Some_slots : ℕ → Type 0) where
   read_step (calls.Refused t i j into refusal x y z place cannot loads) has honest =
       ran_join (without_only cannot has (subst IsTrue (sym (stripe_honest loads)) honest)) (stripe_only loads (has_without cannot has) honest)
 
-  ready_only : {t count : ℕ} {cells : CellSet} {loaded : Stripe} {answer : Result (Unit {0}) Refusal} {x y : Point}
+  ready_only : {t count : ℕ} {cells : CellSet} {loaded : Stripe} {answer : Result (Unit {0}) Refusal} {x y : Snapshot}
       → (does : Prepares t count cells loaded answer x y) → Has x.member → IsTrue y.told.honest → Only x.told y.told
   ready_only (calls.Filled x full) has honest = only_none x
   ready_only (calls.ByCells gathered was x y few loads none) has honest = loaded_only loads has honest
@@ -239,7 +239,7 @@ module _ (Some_slots : ℕ → Type 0) where
       ran_join (loaded_only loads has (subst IsTrue (sym (stripe_honest whole)) honest)) (stripe_only whole (has_loaded loads has) honest)
   ready_only (calls.ByStripe i j answer x y few is away loads) has honest = stripe_only loads has honest
 
-  written_only : {first : ℕ} {contents : List (List ℕ)} {answer : Result (Unit {0}) Refusal} {x y : Point}
+  written_only : {first : ℕ} {contents : List (List ℕ)} {answer : Result (Unit {0}) Refusal} {x y : Snapshot}
       → (does : WritesBlocks first contents answer x y) → Has x.member → IsTrue y.told.honest → Only x.told y.told
   written_only (calls.OutOf x past) has honest = only_none x
   written_only (calls.IsFrozen x within frozen) has honest = only_none x
@@ -247,7 +247,7 @@ module _ (Some_slots : ℕ → Type 0) where
   written_only (calls.Wrote redo loaded stripe refusal x y z place formed ready set done) has honest =
       ran_join (ready_only ready has (subst IsTrue (sym (redo_honest _ _ _ _ _ _ _ done)) honest)) (redo_only done honest)
 
-  scrubbed_only : {t : ℕ} {answer : Result ℕ Refusal} {x y : Point} → (does : Scrubs t answer x y) → Has x.member → IsTrue y.told.honest
+  scrubbed_only : {t : ℕ} {answer : Result ℕ Refusal} {x y : Snapshot} → (does : Scrubs t answer x y) → Has x.member → IsTrue y.told.honest
       → Only x.told y.told
   scrubbed_only (mends.OutOf x past) has honest = only_none x
   scrubbed_only (mends.Stops was read gathered fault x y within loads) has honest = loaded_only loads has honest
@@ -278,50 +278,50 @@ module _ (Some_slots : ℕ → Type 0) where
     preparing_slot g j (Write k bytes answer) is = is.0
     preparing_slot g j (Sync answer) is = is
 
-    looked_only : {mid : Telling} {x y : Point} → Looks slot mid x y → IsTrue y.told.honest → Only x.told y.told
+    looked_only : {mid : RackState} {x y : Snapshot} → Looks slot mid x y → IsTrue y.told.honest → Only x.told y.told
     looked_only looks honest =
         ran_join (called_only (looks.attached (subst IsTrue (sym looks.later.honest) honest)))
         (ran_weakened (λ j call is. slot_only j call is.0.0) (looks.ran honest))
 
-    prepared_only : {x y : Point} → OnlyPrepared slot x y → IsTrue y.told.honest → Only x.told y.told
+    prepared_only : {x y : Snapshot} → OnlyPrepared slot x y → IsTrue y.told.honest → Only x.told y.told
     prepared_only {x = x} only honest =
         ran_weakened (λ j call is. slot_only j call (preparing_slot x.member.array.geometry j call is)) (only.ran honest)
 
-    fit_only : {answer : Result (Unit {0}) Refusal} {x y : Point} → PreparesSlot slot answer x y → IsTrue y.told.honest → Only x.told y.told
+    fit_only : {answer : Result (Unit {0}) Refusal} {x y : Snapshot} → PreparesSlot slot answer x y → IsTrue y.told.honest → Only x.told y.told
     fit_only (mends.WasGone x y only gone) honest = prepared_only only honest
     fit_only (mends.WasSmall needs_has needs mid x y looks small) honest = looked_only looks honest
     fit_only (mends.WasOther mid x y looks bears) honest = looked_only looks honest
     fit_only (mends.Prepared first second mid x y z looks fit later placed sees rules) honest =
         ran_join (looked_only looks (subst IsTrue (sym later.honest) honest)) (placed_only (placed honest))
 
-    replaced_only : {answer : Result (Unit {0}) Refusal} {x y : Point} → (does : Replaces slot answer x y) → IsTrue y.told.honest → Only x.told y.told
+    replaced_only : {answer : Result (Unit {0}) Refusal} {x y : Snapshot} → (does : Replaces slot answer x y) → IsTrue y.told.honest → Only x.told y.told
     replaced_only (mends.OutOf x past) honest = only_none x
     replaced_only (mends.Busy x within busy) honest = only_none x
     replaced_only (mends.Unprepared refusal x y free fit) honest = fit_only fit honest
     replaced_only (mends.Admitted answer x y z free fit joins) honest =
         ran_join (fit_only fit (subst IsTrue (sym joins.establishes.honest) honest)) (established_only joins.establishes honest)
 
-  dropped_only : {j : ℕ} {refusal : Option FenceFault} {x y : Point} → Drops j refusal x y → IsTrue y.told.honest → Only x.told y.told
+  dropped_only : {j : ℕ} {refusal : Option FenceFault} {x y : Snapshot} → FencesSlot j refusal x y → IsTrue y.told.honest → Only x.told y.told
   dropped_only drops honest = left_only drops.leaves honest
 
-  synced_only : {j : ℕ} {answer : Reply} {x y : Point} → SyncsSlot j answer x y → IsTrue y.told.honest → Only x.told y.told
+  synced_only : {j : ℕ} {answer : Reply} {x y : Snapshot} → SyncsSlot j answer x y → IsTrue y.told.honest → Only x.told y.told
   synced_only {j} {answer} syncs honest =
       ran_weakened (λ i call is. subst (ReadsBehind Some_slots i) (sym is.1) tt) (calls_ran (syncs.synced honest))
 
-  promoted_only : {j : ℕ} {answer : Result Progress Refusal} {x y : Point} → (does : Promotes j answer x y) → IsTrue y.told.honest → Only x.told y.told
+  promoted_only : {j : ℕ} {answer : Result Progress Refusal} {x y : Snapshot} → (does : Promotes j answer x y) → IsTrue y.told.honest → Only x.told y.told
   promoted_only (mends.Unsynced refusal x y z syncs drops) honest =
       ran_join (synced_only syncs (subst IsTrue (sym (left_honest _ _ _ _ drops.leaves)) honest)) (dropped_only drops honest)
   promoted_only (mends.Joined answer x y z syncs joins) honest =
       ran_join (synced_only syncs (subst IsTrue (sym joins.establishes.honest) honest)) (established_only joins.establishes honest)
 
-  promoted_honest : {j : ℕ} {answer : Result Progress Refusal} {x y : Point} → Promotes j answer x y → x.told.honest ≡ y.told.honest
+  promoted_honest : {j : ℕ} {answer : Result Progress Refusal} {x y : Snapshot} → Promotes j answer x y → x.told.honest ≡ y.told.honest
   promoted_honest (mends.Unsynced refusal x y z syncs drops) = syncs.later.honest ∙ left_honest _ _ _ _ drops.leaves
   promoted_honest (mends.Joined answer x y z syncs joins) = syncs.later.honest ∙ joins.establishes.honest
 
-  chunk_only : {j t : ℕ} {into : Stripe} {answer : Reply} {x y : Point} → WritesChunk j t into answer x y → IsTrue y.told.honest → Only x.told y.told
+  chunk_only : {j t : ℕ} {into : Stripe} {answer : Reply} {x y : Snapshot} → WritesChunk j t into answer x y → IsTrue y.told.honest → Only x.told y.told
   chunk_only wrote honest = ran_weakened (write_only _ _) (wrote.wrote honest).ran
 
-  rebuilt_only : {was : ArrayState} {answer : Result Progress Refusal} {x y : Point} → (does : Rebuilds was answer x y) → Has x.member
+  rebuilt_only : {was : ArrayState} {answer : Result Progress Refusal} {x y : Snapshot} → (does : Rebuilds was answer x y) → Has x.member
       → IsTrue y.told.honest → Only x.told y.told
   rebuilt_only (mends.NoneIs x none) has honest = only_none x
   rebuilt_only (mends.Unread j t into refusal x y next within loads) has honest = stripe_only loads has honest
@@ -339,7 +339,7 @@ module _ (Some_slots : ℕ → Type 0) where
 
   -- A STEP
 
-  step_only : (step : Step) (was : ArrayState) (after : Option Remembered) (answer : Answer step) (x y : Point) → Does step was after answer x y
+  step_only : (step : Step) (was : ArrayState) (after : Option Remembered) (answer : Answer step) (x y : Snapshot) → Does step was after answer x y
       → Has x.member → ((j : ℕ) → step ≡ ReplaceSlot j → Some_slots j) → IsTrue y.told.honest → Only x.told y.told
   step_only Recover was after answer x y does has replaces honest = opened_only does has honest
   step_only (ReadBlock b) was after answer x y does has replaces honest = read_step does has honest
@@ -352,7 +352,7 @@ module _ (Some_slots : ℕ → Type 0) where
   step_only LookAtSeats was after answer x y does has replaces honest = only_same does
 
 -- with the session's member
-starts_with : (step : Step) (was : ArrayState) (session : Session) (m : Membership) → StartsFrom step was session → HasMember session m → was.member ≡ m
+starts_with : (step : Step) (was : ArrayState) (session : Phase) (m : Membership) → StartsFrom step was session → HasMember session m → was.member ≡ m
 starts_with Recover was (Found found) m starts has = ap (λ (a : ArrayState). a.member) starts ∙ has
 starts_with Recover was _ m starts has = absurd starts
 starts_with _ was (Opened a) m starts has = ap (λ (b : ArrayState). b.member) starts.0 ∙ has
@@ -363,5 +363,5 @@ only_live_are_read step answer events x y m (inr stopped) honest has =
     subst (λ (z : Seen). Ran (ReadsBehind (λ j. IsLiveIn m j ⊎ (step ≡ ReplaceSlot j))) x.told.history z.told.history) (sym stopped.same)
     (ran_none x.told.history)
 only_live_are_read step answer events x y m (inl p) honest has =
-    step_only (λ j. IsLiveIn m j ⊎ (step ≡ ReplaceSlot j)) step p.was p.is.remembered answer (point p.was.member x.told) (point p.is.member y.told) p.does
+    step_only (λ j. IsLiveIn m j ⊎ (step ≡ ReplaceSlot j)) step p.was p.is.remembered answer (snapshot p.was.member x.told) (snapshot p.is.member y.told) p.does
     (λ j live. inl (subst (λ (k : Membership). IsLiveIn k j) (starts_with step p.was x.session m p.starts has) live)) (λ j same. inr same) honest

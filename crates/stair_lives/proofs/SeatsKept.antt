@@ -7,10 +7,10 @@ use Rattle.stair_super.specs.declared.mark.Mark.TheVariants.{Down, Live, Rebuild
 use Rattle.stair_rack.specs.declared.watcher.Event.{Event}
 use Rattle.stair_member.specs.Seats.{Seat, Seats}
 use Rattle.stair_member.specs.declared.fault.FenceFault.{FenceFault}
-use Rattle.stair_session.specs.SeatSteps.{MayDrop, SeatGoes}
+use Rattle.stair_invariant.specs.SeatSteps.{MayDrop, SeatGoes}
 use Rattle.stair_array.specs.Machine.{AlreadyArray, Answer, Chunk, Dropped, EpochsSpent, Frozen, Gone, JournalLost, LookAtSeats, Lost, Nothing, OutOfRange, Progress, Promoted, ReadBlock, RebuildNext, Recover, Refusal, ReplaceSlot, ScrubStripe, SeatsAfter, SeatsRebuilt, SetFrozen, SetLabel, SlotBusy, SmallDevice, Step, TooFew, WriteBlocks}
 use Rattle.stair_array.specs.Promise.{Keeps, Stops}
-use Rattle.stair_story.specs.Story.{Stepped}
+use Rattle.stair_command.specs.Trace.{Stepped}
 use Rattle.stair_lives.specs.Stale.{Admits}
 
 -- a slot that takes part in the end did before, with the same joined number

@@ -1,4 +1,4 @@
--- Over the story of a session that began where a member's epoch was the newest, each slot that takes part in the end did then, with the
+-- Over the trace of a session that began where a member's epoch was the newest, each slot that takes part in the end did then, with the
 -- same medium, unless one was admitted to it.
 use Rattle.std.proofs.Common.{◌≡◌, ◌∙◌, ◌⊎◌, ℕ, Bool, false, List, [], ◌∷◌, Option, None, Some, Ok, Err, inl, inr, refl, sym, ap, subst}
 use Rattle.std.specs.Prelude.{◌≢◌, IsSome, IsTrue, ⊤}
@@ -16,17 +16,17 @@ use Rattle.stair_member.specs.Membership.{Membership}
 use Rattle.stair_member.specs.Seats.{Seats}
 use Rattle.stair_member.proofs.AskedLemmas.{asked_ran}
 use Rattle.stair_state.specs.State.{State}
-use Rattle.stair_session.specs.Mixed.{IsToleratedUnwritten}
-use Rattle.stair_session.specs.Returning.{AnyReturns, IsCalm}
-use Rattle.stair_session.specs.Session.{ArrayState, seats_in}
+use Rattle.stair_invariant.specs.Mixed.{IsToleratedUnwritten}
+use Rattle.stair_invariant.specs.Returning.{AnyReturns, StaysWithinTolerance}
+use Rattle.stair_invariant.specs.Session.{ArrayState, seats_in}
 use Rattle.stair_array.specs.Machine.{Answer, AreKnown, Recover, Refusal, Row, SeatsAfter, Step}
-use Rattle.stair_array.specs.Promise.{Begun, BeginsWith, Closed, Ends, EndsIn, Found, GoesOn, IsInState, IsLed, Opened, Performs, Seen, ServesState, Session, StartsFrom, Stops, is_open}
-use Rattle.stair_return.proofs.LookedSoFar.{looked_mixed}
-use Rattle.stair_story.specs.Action.{Create, Survey}
-use Rattle.stair_story.specs.Devices.{DeviceView, Devices, WorksAll, seen_of}
-use Rattle.stair_story.specs.Run.{DeedLeads, IsCalmUpTo, StoryLeads, history_of}
-use Rattle.stair_story.specs.Story.{Deed, Found as FoundOut, Took, TookLast, TakeFailed, HasPut, PutFailed, Grew, RanOut, Did, Stepped, Leads}
-use Rattle.stair_story.proofs.RunLaws.{IsAt, one_goes, one_ran, upto_end, works_ran}
+use Rattle.stair_array.specs.Promise.{Begun, BeginsWith, Closed, Ends, EndsIn, Found, GoesOn, IsInState, IsLed, Opened, Performs, Seen, ServesState, Phase, StartsFrom, Stops, is_open}
+use Rattle.stair_reinsert.proofs.LookedSoFar.{looked_mixed}
+use Rattle.stair_command.specs.Action.{Create, Survey}
+use Rattle.stair_command.specs.Devices.{DeviceView, Devices, WorksAll, seen_of}
+use Rattle.stair_command.specs.Run.{ItemLeads, StaysWithinToleranceUpTo, TraceLeads, history_of}
+use Rattle.stair_command.specs.Trace.{TraceItem, Found as FoundOut, Took, TookLast, TakeFailed, HasPut, PutFailed, Grew, RanOut, Did, Stepped, AlongTrace}
+use Rattle.stair_command.proofs.RunLaws.{IsAt, one_goes, one_ran, upto_end, works_ran}
 use Rattle.stair_lives.specs.Stale.{Admits, IsNewest, IsReplacedIn}
 use Rattle.stair_lives.proofs.NewestLemmas.{NamesNewest, found_newest}
 use Rattle.stair_lives.proofs.SeatsKept.{KeepsSeat, after_keep, going_on}
@@ -60,7 +60,7 @@ step_follows base Added old new follows keeps j up =
 -- OVER A STORY
 
 -- what the session has of the array follows the earlier one
-abbrev pub SessionFollows : Configuration → (ℕ → Type 0) → Session → Type 0
+abbrev pub SessionFollows : Configuration → (ℕ → Type 0) → Phase → Type 0
 SessionFollows base Added Begun = ⊤
 SessionFollows base Added (Found m) = m.array ≡ base
 SessionFollows base Added (Opened a) = a.stopped ≡ None → Follows base Added a.member.array
@@ -73,11 +73,11 @@ begun_seats : (base : Configuration) (Added : ℕ → Type 0) (step : Step) (was
 begun_seats base Added step was before h s x begun starts begins is_in follows =
     by step x.session starts begins is_in.serves follows
   where
-    other : (session : Session) (a : ArrayState) → session ≡ Opened a → a.stopped ≡ None → s.seats ≡ Some begun
+    other : (session : Phase) (a : ArrayState) → session ≡ Opened a → a.stopped ≡ None → s.seats ≡ Some begun
         → ServesState AnyReturns before s session x.told → SessionFollows base Added session
         → (array : Configuration) × Follows base Added array × (begun ≡ seats_in array)
     other session a is_opened unstopped seats serves line =
-        elim (subst (λ (z : Session). ServesState AnyReturns before s z x.told) is_opened serves) [
+        elim (subst (λ (z : Phase). ServesState AnyReturns before s z x.told) is_opened serves) [
           | inl opened ↦
               let both : Some begun ≡ Some (seats_in a.member.array) = sym seats ∙ opened.seats in
               let same : begun ≡ seats_in a.member.array = cc in
@@ -88,7 +88,7 @@ begun_seats base Added step was before h s x begun starts begins is_in follows =
         some_not : a.stopped ≡ None → IsSome a.stopped → ⊥
         some_not none some = cc
 
-    by : (st : Step) (session : Session) → StartsFrom st was session → BeginsWith AnyReturns st was.member before h s begun
+    by : (st : Step) (session : Phase) → StartsFrom st was session → BeginsWith AnyReturns st was.member before h s begun
         → ServesState AnyReturns before s session x.told → SessionFollows base Added session
         → (array : Configuration) × Follows base Added array × (begun ≡ seats_in array)
     by Recover (Found m) starts begins serves line =
@@ -118,14 +118,14 @@ module _ {R W : Type 0} (view : DeviceView R W) (honest : IsTrue view.rack.hones
 
   -- an array is found by the newest epoch
   found_follows : (s : State) (stopped : Option Refusal) (m : Membership) (x y : Devices R W) → WorksAll view (Did Survey (Ok m)) x y
-      → IsAt view AnyReturns before s stopped x → s.geometry ≡ g → IsCalm AnyReturns s.geometry (is_open x.session) before (h_of y)
+      → IsAt view AnyReturns before s stopped x → s.geometry ≡ g → StaysWithinTolerance AnyReturns s.geometry (is_open x.session) before (h_of y)
       → m.array ≡ base.array
   found_follows s stopped m x y works is_at same calm =
       let serves : ServesState AnyReturns before s Begun (seen_of view x).told =
-      subst (λ (session : Session). ServesState AnyReturns before s session (seen_of view x).told) works.1 is_at.is_in.serves in
-      let closed : IsCalm AnyReturns g false before (h_of y) =
-      subst (λ (k : Geometry). IsCalm AnyReturns k false before (h_of y)) same
-      (subst (λ (session : Session). IsCalm AnyReturns s.geometry (is_open session) before (h_of y)) works.1 calm) in
+      subst (λ (session : Phase). ServesState AnyReturns before s session (seen_of view x).told) works.1 is_at.is_in.serves in
+      let closed : StaysWithinTolerance AnyReturns g false before (h_of y) =
+      subst (λ (k : Geometry). StaysWithinTolerance AnyReturns k false before (h_of y)) same
+      (subst (λ (session : Phase). StaysWithinTolerance AnyReturns s.geometry (is_open session) before (h_of y)) works.1 calm) in
       let ran = asked_ran 32 (h_of x) (h_of y) (works.0.asked honest) in
       found_newest g m base.array (seen_of view x).told (seen_of view y).told works.0 honest
       (subst (λ (h : List Happening). NamesNewest g base.array h) serves.0 newest.current)
@@ -133,8 +133,8 @@ module _ {R W : Type 0} (view : DeviceView R W) (honest : IsTrue view.rack.hones
       (subst (λ (h : List Happening). IsToleratedUnwritten g h (h_of y)) serves.0 closed.1))
 
   stepped_follows : (s : State) (stopped : Option Refusal) (step : Step) (answer : Answer step) (events : List Event) (left : Bool) (x y : Devices R W)
-      → WorksAll view (Stepped step answer events left) x y → DeedLeads AnyReturns view (Stepped step answer events left) x y → IsHistory (h_of x)
-      → IsAt view AnyReturns before s stopped x → IsCalm AnyReturns s.geometry (is_open x.session) before (h_of y)
+      → WorksAll view (Stepped step answer events left) x y → ItemLeads AnyReturns view (Stepped step answer events left) x y → IsHistory (h_of x)
+      → IsAt view AnyReturns before s stopped x → StaysWithinTolerance AnyReturns s.geometry (is_open x.session) before (h_of y)
       → ((j : ℕ) → Admits j (Stepped step answer events left) → Added j) → SessionFollows base.array Added x.session
       → SessionFollows base.array Added y.session
   stepped_follows s stopped step answer events left x y works led history is_at calm admits follows =
@@ -153,7 +153,7 @@ module _ {R W : Type 0} (view : DeviceView R W) (honest : IsTrue view.rack.hones
 
           opened : y.session ≡ Opened does.is → does.is.stopped ≡ None → ¬ Stops answer → Follows base.array Added does.is.member.array
           opened is_opened unstopped goes =
-              elim (subst (λ (z : Session). ServesState AnyReturns before leads.state z (seen_of view y).told) is_opened leads.is_in.serves) [
+              elim (subst (λ (z : Phase). ServesState AnyReturns before leads.state z (seen_of view y).told) is_opened leads.is_in.serves) [
                 | inl now ↦
                     let began =
                     begun_seats base.array Added step does.was before (h_of y) s (seen_of view x) leads.is_step.begun does.starts leads.is_step.begins
@@ -181,13 +181,13 @@ module _ {R W : Type 0} (view : DeviceView R W) (honest : IsTrue view.rack.hones
               subst (SessionFollows base.array Added) (sym is_opened)
               (λ unstopped. opened is_opened unstopped (going_on answer does.is.stopped keeps unstopped))
 
-  -- a deed that leaves all as it was
+  -- an item that leaves all as it was
   still : (x y : Devices R W) → y ≡ x → SessionFollows base.array Added x.session → SessionFollows base.array Added y.session
   still x y same follows = subst (λ (z : Devices R W). SessionFollows base.array Added z.session) (sym same) follows
 
-  one_follows : (s : State) (stopped : Option Refusal) (deed : Deed) (x y : Devices R W) → WorksAll view deed x y → DeedLeads AnyReturns view deed x y
+  one_follows : (s : State) (stopped : Option Refusal) (item : TraceItem) (x y : Devices R W) → WorksAll view item x y → ItemLeads AnyReturns view item x y
       → IsHistory (h_of x) → IsAt view AnyReturns before s stopped x → s.geometry ≡ g
-      → IsCalm AnyReturns s.geometry (is_open x.session) before (h_of y) → ((j : ℕ) → Admits j deed → Added j)
+      → StaysWithinTolerance AnyReturns s.geometry (is_open x.session) before (h_of y) → ((j : ℕ) → Admits j item → Added j)
       → SessionFollows base.array Added x.session → SessionFollows base.array Added y.session
   one_follows s stopped (Did (Create other) came) x y works led history is_at same calm admits follows =
       subst (SessionFollows base.array Added) (sym works.2) tt
@@ -206,18 +206,18 @@ module _ {R W : Type 0} (view : DeviceView R W) (honest : IsTrue view.rack.hones
   one_follows s stopped Grew x y works led history is_at same calm admits follows = still x y works follows
   one_follows s stopped RanOut x y works led history is_at same calm admits follows = still x y works follows
 
-  pub story_follows : (s : State) (stopped : Option Refusal) (story : List Deed) (x y : Devices R W) (works : Leads (WorksAll view) story x y)
-      → StoryLeads AnyReturns view story x y works → IsHistory (h_of x) → IsAt view AnyReturns before s stopped x → s.geometry ≡ g
-      → IsCalmUpTo view AnyReturns s.geometry before (h_of y) story x y works → ((j : ℕ) → IsReplacedIn j story → Added j)
+  pub trace_follows : (s : State) (stopped : Option Refusal) (trace : List TraceItem) (x y : Devices R W) (works : AlongTrace (WorksAll view) trace x y)
+      → TraceLeads AnyReturns view trace x y works → IsHistory (h_of x) → IsAt view AnyReturns before s stopped x → s.geometry ≡ g
+      → StaysWithinToleranceUpTo view AnyReturns s.geometry before (h_of y) trace x y works → ((j : ℕ) → IsReplacedIn j trace → Added j)
       → SessionFollows base.array Added x.session → SessionFollows base.array Added y.session
-  story_follows s stopped [] x y works led history is_at same calm replaced follows = still x y works follows
-  story_follows s stopped (deed ∷ story) x y works led history is_at same calm replaced follows =
-      let ran = one_ran view honest deed x works.0 works.1 in
-      let later = works_ran view honest story works.0 y works.2 in
+  trace_follows s stopped [] x y works led history is_at same calm replaced follows = still x y works follows
+  trace_follows s stopped (item ∷ trace) x y works led history is_at same calm replaced follows =
+      let ran = one_ran view honest item x works.0 works.1 in
+      let later = works_ran view honest trace works.0 y works.2 in
       let upto = λ (c : List Happening) (at : IsMoment (h_of x) c (h_of works.0)). calm.0 c at (upto_end at later) in
-      let one = one_goes view honest AnyReturns before s stopped deed x works.0 works.1 led.0 history is_at upto in
-      story_follows one.state one.stop story works.0 y works.2 led.1 (history_on history ran) one.is_at (one.geometry ∙ same)
-      (subst (λ (k : Geometry). IsCalmUpTo view AnyReturns k before (h_of y) story works.0 y works.2) (sym one.geometry) calm.1)
+      let one = one_goes view honest AnyReturns before s stopped item x works.0 works.1 led.0 history is_at upto in
+      trace_follows one.state one.stop trace works.0 y works.2 led.1 (history_on history ran) one.is_at (one.geometry ∙ same)
+      (subst (λ (k : Geometry). StaysWithinToleranceUpTo view AnyReturns k before (h_of y) trace works.0 y works.2) (sym one.geometry) calm.1)
       (λ j has. replaced j (inr has))
-      (one_follows s stopped deed x works.0 works.1 led.0 history is_at same (upto (h_of works.0) (moment_last ran.more ran.is)) (λ j has. replaced j (inl has))
+      (one_follows s stopped item x works.0 works.1 led.0 history is_at same (upto (h_of works.0) (moment_last ran.more ran.is)) (λ j has. replaced j (inl has))
       follows)

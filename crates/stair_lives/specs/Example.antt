@@ -11,7 +11,7 @@ use Rattle.stair_rack.specs.Moments.{AtEveryMoment}
 use Rattle.stair_rack.specs.Offline.{IsOffline}
 use Rattle.stair_rack.specs.Sector.{Cell, Good, Torn}
 use Rattle.stair_rack.specs.Stretch.{EachHappening, NothingReturned}
-use Rattle.stair_rack.specs.Telling.{Telling}
+use Rattle.stair_rack.specs.RackState.{RackState}
 use Rattle.stair_rack.specs.declared.watcher.Event.{Event}
 use Rattle.stair_super.specs.Spelling.{spelled}
 use Rattle.stair_super.specs.declared.mark.Mark.TheVariants.{Down, Live}
@@ -25,11 +25,11 @@ use Rattle.stair_state.specs.Degraded.{AreAllDamaged, AreDamagedCopies}
 use Rattle.stair_state.specs.Blocks.{Codewords, zero_block}
 use Rattle.stair_state.specs.Holding.{IsConsistentUnderReassembly}
 use Rattle.stair_state.specs.State.{created_state, without_seats}
-use Rattle.stair_session.specs.Returning.{AnyReturns, IsCalm, IsCalmUnread}
+use Rattle.stair_invariant.specs.Returning.{AnyReturns, StaysWithinTolerance, StaysWithinToleranceUnread}
 use Rattle.stair_array.specs.Machine.{Answer, EpochsSpent, ReadBlock, Recover, Refusal}
 use Rattle.stair_array.specs.Promise.{Found, Performs, Seen}
-use Rattle.stair_return.specs.Misled.{device_cell, device_of, five, naming, rack_of}
-use Rattle.stair_return.specs.Still.{IsStill}
+use Rattle.stair_reinsert.specs.Misled.{device_cell, device_of, five, naming, rack_of}
+use Rattle.stair_reinsert.specs.Still.{IsStill}
 use Rattle.stair_reinsert_examples.specs.Refused.{all_live, slot_without}
 use Rattle.stair_lives.specs.Stale.{IsOpenBy, ReadsBehind}
 
@@ -67,8 +67,8 @@ pub record IsLeftOutAgain (words : Codewords) : Type 0 where
   pub consistent :
       IsConsistentUnderReassembly (without_seats (created_state five)) (reinserted words)
   pub calm : (h : List Happening) → IsStill (reinserted words) h
-      → IsCalm AnyReturns five false (reinserted words) h
-  pub found : (first last : Telling) (answer : Result Membership SurveyFault)
+      → StaysWithinTolerance AnyReturns five false (reinserted words) h
+  pub found : (first last : RackState) (answer : Result Membership SurveyFault)
       → first.history ≡ reinserted words → IsTrue last.honest → IsStill first.history last.history
       → Surveys answer first last
       → (m : Membership) × (answer ≡ Ok m) × (m.array ≡ (left_out 0).array) × ¬ IsHere m 3
@@ -126,14 +126,14 @@ KeepsAmid h (Called j (Sync answer)) = ⊤
 
 -- It is so once the device was put back, and such calls keep it so. As long as it is so at every moment, the premise of an opening is
 -- met, and what is asked of one whose first epoch is refused.
-pub record IsCalmAmid (words : Codewords) : Type 0 where
+pub record StaysWithinToleranceAmid (words : Codewords) : Type 0 where
   pub begins : IsMomentAmid words (reinserted words)
   pub kept : (h : List Happening) → EachHappening KeepsAmid (reinserted words) h
       → AtEveryMoment (IsMomentAmid words) (reinserted words) h
   pub calm : (h : List Happening) → AtEveryMoment (IsMomentAmid words) (reinserted words) h
-      → IsCalm AnyReturns five false (reinserted words) h
+      → StaysWithinTolerance AnyReturns five false (reinserted words) h
   pub unread : (h : List Happening) → AtEveryMoment (IsMomentAmid words) (reinserted words) h
-      → IsCalmUnread AnyReturns five false (reinserted words) h
+      → StaysWithinToleranceUnread AnyReturns five false (reinserted words) h
 
 -- THE NEXT OPENING
 
@@ -145,7 +145,7 @@ pub record ReadsWithout (words : Codewords) (y : Seen) : Type 0 where
   pub left : ¬ IsHere member 3
   pub read : (b : ℕ) (answer : Answer (ReadBlock b)) (events : List Event) (z : Seen)
       → Performs (ReadBlock b) answer events y z → IsTrue z.told.honest
-      → IsCalm AnyReturns five true (reinserted words) z.told.history → b < block_count five
+      → StaysWithinTolerance AnyReturns five true (reinserted words) z.told.history → b < block_count five
       → Ran (ReadsBehind (λ j. j ≢ 3)) y.told.history z.told.history
       × ((bytes : List ℕ) → answer ≡ Ok bytes → bytes ≡ zero_block)
       × ((refusal : Refusal) → answer ≡ Err refusal → refusal ≡ EpochsSpent)
@@ -155,22 +155,22 @@ pub record ReadsWithout (words : Codewords) (y : Seen) : Type 0 where
 -- open without slot 3.
 pub record OpensWithout (words : Codewords) (answer : Answer Recover) (x y : Seen) : Type 0 where
   pub reads : Ran (ReadsBehind (λ j. j ≢ 3)) x.told.history y.told.history
-  pub refused : IsCalmUnread AnyReturns five false (reinserted words) y.told.history
+  pub refused : StaysWithinToleranceUnread AnyReturns five false (reinserted words) y.told.history
       → (refusal : Refusal) → answer ≡ Err refusal → refusal ≡ EpochsSpent
   pub done : (g : Geometry) → answer ≡ Ok g → ReadsWithout words y
 
 abbrev pub EachOpensWithout : Codewords → Type 0
-EachOpensWithout words = (first found : Telling) (m : Membership) (answer : Answer Recover)
+EachOpensWithout words = (first found : RackState) (m : Membership) (answer : Answer Recover)
     (events : List Event) (y : Seen) → first.history ≡ reinserted words → IsTrue found.honest
     → IsStill first.history found.history → Surveys (Ok m) first found → IsMembership m
     → Performs Recover answer events (record { told = found; session = Found m }) y
-    → IsTrue y.told.honest → IsCalm AnyReturns five false (reinserted words) y.told.history
+    → IsTrue y.told.honest → StaysWithinTolerance AnyReturns five false (reinserted words) y.told.history
     → OpensWithout words answer (record { told = found; session = Found m }) y
 
 -- So does each with no such premise, where the rack is only looked at and written so as KeepsAmid says: it is refused only where no epoch
 -- is left, and else has the array open without slot 3.
 abbrev pub EachOpensAmid : Codewords → Type 0
-EachOpensAmid words = (first found : Telling) (m : Membership) (answer : Answer Recover)
+EachOpensAmid words = (first found : RackState) (m : Membership) (answer : Answer Recover)
     (events : List Event) (y : Seen) → first.history ≡ reinserted words → IsTrue found.honest
     → IsStill first.history found.history → Surveys (Ok m) first found → IsMembership m
     → Performs Recover answer events (record { told = found; session = Found m }) y

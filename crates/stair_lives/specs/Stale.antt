@@ -15,27 +15,27 @@ use Rattle.stair_member.specs.Current.{IsCurrent, IsLive}
 use Rattle.stair_member.specs.Epochs.{Issued}
 use Rattle.stair_member.specs.Membership.{IsHere, Membership, why_of}
 use Rattle.stair_member.specs.Reserve.{Bears}
-use Rattle.stair_member.specs.declared.aim.Aim.{Aim}
+use Rattle.stair_member.specs.declared.aim.EpochChange.{EpochChange}
 use Rattle.stair_member.specs.declared.why.Why.TheVariants.{Here}
 use Rattle.stair_state.specs.Degraded.{AreDamagedCopies}
 use Rattle.stair_state.specs.Reassembly.{IsBorne, IsMediumOf, IsReassembly, Location}
 use Rattle.stair_state.specs.Represents.{no_write}
 use Rattle.stair_state.specs.State.{State}
 use Rattle.stair_state.specs.Tolerance.{IsToleratedAlone}
-use Rattle.stair_session.specs.InSession.{IsBehindPlaces}
-use Rattle.stair_session.specs.Returning.{AnyReturns, IsCalm, KnowsMedia, holders_of}
-use Rattle.stair_session.specs.Session.{ArrayState, IsLiveIn}
+use Rattle.stair_invariant.specs.InSession.{IsBehindPlaces}
+use Rattle.stair_invariant.specs.Returning.{AnyReturns, StaysWithinTolerance, KnowsMedia, current_media_of}
+use Rattle.stair_invariant.specs.Session.{ArrayState, IsLiveIn}
 use Rattle.stair_array.specs.Machine.{Answer, ReplaceSlot, SetFrozen, SetLabel, Step}
-use Rattle.stair_array.specs.Promise.{Begun, DoesStep, Found, IsInState, Opened, Performs, Seen, Session, is_open}
-use Rattle.stair_return.specs.Beginning.{BeginsWherever}
-use Rattle.stair_return.specs.Following.{Wherever, name_of}
-use Rattle.stair_story.specs.Devices.{DeviceView, Devices, WorksAll, devices}
-use Rattle.stair_story.specs.Headline.{IsBorneOut}
-use Rattle.stair_story.specs.Outside.{Outside, Views}
-use Rattle.stair_story.specs.Plan.{Plan}
-use Rattle.stair_story.specs.Run.{history_of}
-use Rattle.stair_story.specs.Sessions.{Calls, Cut, Ends, IsCalmOver, Starts}
-use Rattle.stair_story.specs.Story.{Deed, Leads, Stepped}
+use Rattle.stair_array.specs.Promise.{Begun, DoesStep, Found, IsInState, Opened, Performs, Seen, Phase, is_open}
+use Rattle.stair_reinsert.specs.Beginning.{BeginsWherever}
+use Rattle.stair_reinsert.specs.Following.{Wherever, name_of}
+use Rattle.stair_command.specs.Devices.{DeviceView, Devices, WorksAll, devices}
+use Rattle.stair_command.specs.Headline.{RefinesProgram}
+use Rattle.stair_command.specs.Outside.{Outside, Views}
+use Rattle.stair_command.specs.Program.{Program}
+use Rattle.stair_command.specs.Run.{history_of}
+use Rattle.stair_command.specs.Sessions.{Calls, Cut, Ends, StaysWithinToleranceOver, Starts}
+use Rattle.stair_command.specs.Trace.{TraceItem, AlongTrace, Stepped}
 
 -- THE NEWEST EPOCH
 
@@ -58,63 +58,63 @@ pub record IsMeant (m : Membership) (j joined : ℕ) : Type 0 where
 -- OVER CALLS
 
 -- a medium was admitted to slot j
-abbrev pub Admits : ℕ → Deed → Type 0
+abbrev pub Admits : ℕ → TraceItem → Type 0
 Admits j (Stepped (ReplaceSlot i) (Ok done) events left) = i ≡ j
-Admits j deed = ⊥
+Admits j item = ⊥
 
-abbrev pub IsReplacedIn : ℕ → List Deed → Type 0
+abbrev pub IsReplacedIn : ℕ → List TraceItem → Type 0
 IsReplacedIn j [] = ⊥
-IsReplacedIn j (deed ∷ story) = Admits j deed ⊎ IsReplacedIn j story
+IsReplacedIn j (item ∷ trace) = Admits j item ⊎ IsReplacedIn j trace
 
 -- Each medium that the later member means the earlier one meant, unless one was admitted to the slot in between.
-abbrev pub NoneIsAdded : Membership → Membership → List Deed → Type 0
-NoneIsAdded m last deeds = (j : ℕ) → IsHere last j
-    → IsMeant m j (joined_in last.array j) ⊎ IsReplacedIn j deeds
+abbrev pub NoneIsAdded : Membership → Membership → List TraceItem → Type 0
+NoneIsAdded m last trace_items = (j : ℕ) → IsHere last j
+    → IsMeant m j (joined_in last.array j) ⊎ IsReplacedIn j trace_items
 
 -- the session has its array open, with this member, and wasn't stopped
-abbrev pub IsOpenBy : Session → Membership → Type 0
+abbrev pub IsOpenBy : Phase → Membership → Type 0
 IsOpenBy session m = (a : ArrayState) × (session ≡ Opened a) × (a.stopped ≡ None) × (a.member ≡ m)
 
--- the deeds of the story up to here are these
-abbrev pub ComesTo : {R W : Type 0} → (view : DeviceView R W) → (story : List Deed)
-    → (x y : Devices R W) → Leads (WorksAll view) story x y → List Deed → Devices R W → Type 0
-ComesTo view story x y works [] here = here ≡ x
+-- the items of the trace up to here are these
+abbrev pub ComesTo : {R W : Type 0} → (view : DeviceView R W) → (trace : List TraceItem)
+    → (x y : Devices R W) → AlongTrace (WorksAll view) trace x y → List TraceItem → Devices R W → Type 0
+ComesTo view trace x y works [] here = here ≡ x
 ComesTo view [] x y works (one ∷ done) here = ⊥
-ComesTo view (deed ∷ story) x y works (one ∷ done) here =
-    (one ≡ deed) × ComesTo view story works.0 y works.2 done here
+ComesTo view (item ∷ trace) x y works (one ∷ done) here =
+    (one ≡ item) × ComesTo view trace works.0 y works.2 done here
 
--- After these deeds the session had its array open, with this member, and from then on to c no superblock place was written: it
+-- After these items the session had its array open, with this member, and from then on to c no superblock place was written: it
 -- was cut while no epoch was being established.
-pub record IsCutOpen {R W : Type 0} (view : DeviceView R W) (m : Membership) (story : List Deed)
-    (x y : Devices R W) (works : Leads (WorksAll view) story x y) (c : List Happening)
-    (done : List Deed) : Type 0 where
+pub record IsCutOpen {R W : Type 0} (view : DeviceView R W) (m : Membership) (trace : List TraceItem)
+    (x y : Devices R W) (works : AlongTrace (WorksAll view) trace x y) (c : List Happening)
+    (done : List TraceItem) : Type 0 where
   pub here : Devices R W
-  pub comes : ComesTo view story x y works done here
+  pub comes : ComesTo view trace x y works done here
   pub opened : IsOpenBy here.session m
   pub behind : Ran IsBehindPlaces (history_of view here) c
 
 -- Some of these calls ended with its array open, by the first member, or was cut so. From then on each call did too, the last of
--- them by the last member, or it wrote nothing. These are the deeds of those that wrote, since then.
+-- them by the last member, or it wrote nothing. These are the items of those that wrote, since then.
 abbrev pub StandsSince : {R W S K : Type 0} → (view : DeviceView R W) → (streams : Views S K)
     → (first : State) → Membership → (h : List Happening)
-    → Calls view streams AnyReturns first h → Membership → List Deed → Type 0
-StandsSince view streams first m h (Starts h' history stands) last deeds = ⊥
-StandsSince view streams first m h (Ends later plan rest old new x y watchers left calls borne calm acted between) last deeds =
-    (IsOpenBy borne.session m × (last ≡ m) × (deeds ≡ []))
-    ⊎ (((before : Membership) × (earlier : List Deed)
+    → Calls view streams AnyReturns first h → Membership → List TraceItem → Type 0
+StandsSince view streams first m h (Starts h' history stands) last trace_items = ⊥
+StandsSince view streams first m h (Ends later program rest old new x y watchers left calls borne calm acted between) last trace_items =
+    (IsOpenBy borne.session m × (last ≡ m) × (trace_items ≡ []))
+    ⊎ (((before : Membership) × (earlier : List TraceItem)
     × StandsSince view streams first m (view.rack.history x) calls before earlier
-    × IsOpenBy borne.session last × (deeds ≡ earlier ++ borne.over.means.story))
+    × IsOpenBy borne.session last × (trace_items ≡ earlier ++ borne.over.means.trace))
     ⊎ (NothingWritten (view.rack.history x) (view.rack.history y)
-    × StandsSince view streams first m (view.rack.history x) calls last deeds))
-StandsSince view streams first m h (Cut c image later plan rest old new x y watchers left calls borne at calm crash acted between) last deeds =
-    ((done : List Deed) × IsCutOpen view m borne.over.means.story (devices x Begun watchers)
-    (devices y borne.session left) borne.over.works c done × (last ≡ m) × (deeds ≡ []))
-    ⊎ (((before : Membership) × (earlier : List Deed) × (done : List Deed)
+    × StandsSince view streams first m (view.rack.history x) calls last trace_items))
+StandsSince view streams first m h (Cut c image later program rest old new x y watchers left calls borne at calm crash acted between) last trace_items =
+    ((done : List TraceItem) × IsCutOpen view m borne.over.means.trace (devices x Begun watchers)
+    (devices y borne.session left) borne.over.works c done × (last ≡ m) × (trace_items ≡ []))
+    ⊎ (((before : Membership) × (earlier : List TraceItem) × (done : List TraceItem)
     × StandsSince view streams first m (view.rack.history x) calls before earlier
-    × IsCutOpen view last borne.over.means.story (devices x Begun watchers)
-    (devices y borne.session left) borne.over.works c done × (deeds ≡ earlier ++ done))
+    × IsCutOpen view last borne.over.means.trace (devices x Begun watchers)
+    (devices y borne.session left) borne.over.works c done × (trace_items ≡ earlier ++ done))
     ⊎ (NothingWritten (view.rack.history x) c
-    × StandsSince view streams first m (view.rack.history x) calls last deeds))
+    × StandsSince view streams first m (view.rack.history x) calls last trace_items))
 
 -- WHILE AN EPOCH IS ESTABLISHED
 
@@ -127,7 +127,7 @@ OnlyMeantAreLive g m h = (image to : Image) (current : Superblock) (j : ℕ)
     → (why_of m j ≡ Here) × (live.super.joined ≡ joined_in m.array j)
 
 -- and what is current names what the member does, or what an epoch names that is for this, where these slots were gone
-abbrev pub IsOldOrBegun : Geometry → Aim → Slots → Membership → List Happening → Type 0
+abbrev pub IsOldOrBegun : Geometry → EpochChange → Slots → Membership → List Happening → Type 0
 IsOldOrBegun g aim gone m h = (image to : Image) (current : Superblock) → CrashMayLeave h image
     → IsReassembly image to → IsToleratedAlone g to → IsCurrent g to current
     → (current.array ≡ m.array) ⊎ IsAimed aim (HasSlot gone) m current.array
@@ -156,7 +156,7 @@ ReadsBehind some j (Read k answer) = 2 ≤ k → some j
 ReadsBehind some j call = ⊤
 
 -- what the session has of the array, found or open, is this member
-abbrev pub HasMember : Session → Membership → Type 0
+abbrev pub HasMember : Phase → Membership → Type 0
 HasMember (Found found) m = found ≡ m
 HasMember (Opened a) m = a.member ≡ m
 HasMember _ m = ⊥
@@ -176,29 +176,29 @@ OnlyLiveAreRead = (step : Step) (answer : Answer step) (events : List Event) (x 
 abbrev pub NeverStale : (R W S K : Type 0) → Type 0
 NeverStale R W S K = (view : DeviceView R W) (streams : Views S K) (first : State)
     (h : List Happening) (calls : Calls view streams AnyReturns first h) (m last : Membership)
-    (deeds : List Deed) → IsTrue view.rack.honest
-    → StandsSince view streams first m h calls last deeds
-    → IsNewest first.geometry last h × NoneIsAdded m last deeds
+    (trace_items : List TraceItem) → IsTrue view.rack.honest
+    → StandsSince view streams first m h calls last trace_items
+    → IsNewest first.geometry last h × NoneIsAdded m last trace_items
 
--- So it is in the next call, whole or cut later: at each moment between two of its deeds at which its array is open.
+-- So it is in the next call, whole or cut later: at each moment between two of its items at which its array is open.
 abbrev pub NeverStaleWithin : (R W S K : Type 0) → Type 0
 NeverStaleWithin R W S K = (view : DeviceView R W) (streams : Views S K) (first : State) (x : R)
     (calls : Calls view streams AnyReturns first (view.rack.history x)) (m last : Membership)
-    (deeds story : List Deed) (watchers : List W) (y : Devices R W)
-    (works : Leads (WorksAll view) story (devices x Begun watchers) y) → IsTrue view.rack.honest
-    → StandsSince view streams first m (view.rack.history x) calls last deeds
-    → IsCalmOver view AnyReturns first.geometry (history_of view y) story
+    (trace_items trace : List TraceItem) (watchers : List W) (y : Devices R W)
+    (works : AlongTrace (WorksAll view) trace (devices x Begun watchers) y) → IsTrue view.rack.honest
+    → StandsSince view streams first m (view.rack.history x) calls last trace_items
+    → StaysWithinToleranceOver view AnyReturns first.geometry (history_of view y) trace
     (devices x Begun watchers) y works → (now : Membership) → IsOpenBy y.session now
-    → IsNewest first.geometry now (history_of view y) × NoneIsAdded m now (deeds ++ story)
+    → IsNewest first.geometry now (history_of view y) × NoneIsAdded m now (trace_items ++ trace)
 
 -- Before its array is open, it is found by the newest epoch.
 abbrev pub NewestIsFound : (R W S K : Type 0) → Type 0
 NewestIsFound R W S K = (view : DeviceView R W) (streams : Views S K) (first : State) (x : R)
     (calls : Calls view streams AnyReturns first (view.rack.history x)) (m last : Membership)
-    (deeds story : List Deed) (watchers : List W) (y : Devices R W)
-    (works : Leads (WorksAll view) story (devices x Begun watchers) y) → IsTrue view.rack.honest
-    → StandsSince view streams first m (view.rack.history x) calls last deeds
-    → IsCalmOver view AnyReturns first.geometry (history_of view y) story
+    (trace_items trace : List TraceItem) (watchers : List W) (y : Devices R W)
+    (works : AlongTrace (WorksAll view) trace (devices x Begun watchers) y) → IsTrue view.rack.honest
+    → StandsSince view streams first m (view.rack.history x) calls last trace_items
+    → StaysWithinToleranceOver view AnyReturns first.geometry (history_of view y) trace
     (devices x Begun watchers) y works → (found : Membership) → y.session ≡ Found found
     → found.array ≡ last.array
 
@@ -214,21 +214,21 @@ LeftOutStays = (g : Geometry) (m : Membership) (old new : List Happening) (j : �
 abbrev pub MediaStayOut : (R W S K : Type 0) → Type 0
 MediaStayOut R W S K = (view : DeviceView R W) (streams : Views S K) (first : State)
     (h later : List Happening) (calls : Calls view streams AnyReturns first h)
-    (m last : Membership) (deeds : List Deed) (j : ℕ) (name : Location)
-    → IsTrue view.rack.honest → StandsSince view streams first m h calls last deeds
-    → ¬ IsReplacedIn j deeds → IsLeftOut first.geometry m h j name → Ran no_write h later
+    (m last : Membership) (trace_items : List TraceItem) (j : ℕ) (name : Location)
+    → IsTrue view.rack.honest → StandsSince view streams first m h calls last trace_items
+    → ¬ IsReplacedIn j trace_items → IsLeftOut first.geometry m h j name → Ran no_write h later
     → IsNeverLive first.geometry later j name
 
--- So it is in the next call, whole or cut later: at each moment between two of its deeds at which its array is open.
+-- So it is in the next call, whole or cut later: at each moment between two of its items at which its array is open.
 abbrev pub MediaStayOutWithin : (R W S K : Type 0) → Type 0
 MediaStayOutWithin R W S K = (view : DeviceView R W) (streams : Views S K) (first : State) (x : R)
     (calls : Calls view streams AnyReturns first (view.rack.history x)) (m last : Membership)
-    (deeds story : List Deed) (watchers : List W) (y : Devices R W)
-    (works : Leads (WorksAll view) story (devices x Begun watchers) y) → IsTrue view.rack.honest
-    → StandsSince view streams first m (view.rack.history x) calls last deeds
-    → IsCalmOver view AnyReturns first.geometry (history_of view y) story
+    (trace_items trace : List TraceItem) (watchers : List W) (y : Devices R W)
+    (works : AlongTrace (WorksAll view) trace (devices x Begun watchers) y) → IsTrue view.rack.honest
+    → StandsSince view streams first m (view.rack.history x) calls last trace_items
+    → StaysWithinToleranceOver view AnyReturns first.geometry (history_of view y) trace
     (devices x Begun watchers) y works → (now : Membership) → IsOpenBy y.session now → (j : ℕ)
-    (name : Location) → ¬ IsReplacedIn j (deeds ++ story)
+    (name : Location) → ¬ IsReplacedIn j (trace_items ++ trace)
     → IsLeftOut first.geometry m (history_of view y) j name
     → IsNeverLive first.geometry (history_of view y) j name
 
@@ -236,9 +236,9 @@ MediaStayOutWithin R W S K = (view : DeviceView R W) (streams : Views S K) (firs
 -- epoch before left out isn't live. What is current is that epoch or one that the call writes. A medium that only the new epoch
 -- leaves out may be live where the old one is current, and isn't where the new one is.
 abbrev pub NeverLiveWhileBegun : Type 0
-NeverLiveWhileBegun = (s : State) (aim : Aim) (gone : Slots) (m start last : Membership)
+NeverLiveWhileBegun = (s : State) (aim : EpochChange) (gone : Slots) (m start last : Membership)
     (old c new : List Happening) → m.array.geometry ≡ s.geometry → KnowsMedia s m old
-    → start.array ≡ m.array → BeginsWherever s (holders_of m) m.array.epoch aim start old
+    → start.array ≡ m.array → BeginsWherever s (current_media_of m) m.array.epoch aim start old
     → Issued aim gone start last old new → IsMoment old c new
     → OnlyMeantAreLive s.geometry m c × IsOldOrBegun s.geometry aim gone start c
 
@@ -255,7 +255,7 @@ NeverLiveInStamps = (step : Step) (answer : Answer step) (events : List Event) (
     → IsHistory x.told.history → (before : List Happening) (s : State)
     → IsInState AnyReturns before s x → (c : List Happening)
     → IsMoment x.told.history c y.told.history
-    → IsCalm AnyReturns s.geometry (is_open x.session) before c
+    → StaysWithinTolerance AnyReturns s.geometry (is_open x.session) before c
     → OnlyMeantAreLive s.geometry p.was.member c
 
 -- an epoch names one configuration, on whichever media it is, and no two media of a slot were admitted in one epoch
@@ -274,10 +274,10 @@ AllNameOnce R W S K = (view : DeviceView R W) (streams : Views S K) (first : Sta
 -- and in one, up to which what is asked of the outside was kept.
 abbrev pub AllNameOnceWithin : (R W S K : Type 0) → Type 0
 AllNameOnceWithin R W S K = (view : DeviceView R W) (streams : Views S K) (first : State)
-    (plan rest : Plan) (old new : Outside S K) (x y : R) (watchers left : List W)
+    (program rest : Program) (old new : Outside S K) (x y : R) (watchers left : List W)
     (c : List Happening) → Calls view streams AnyReturns first (view.rack.history x)
-    → (borne : IsBorneOut view streams plan rest old new x y watchers left)
+    → (borne : RefinesProgram view streams program rest old new x y watchers left)
     → IsTrue view.rack.honest → IsMoment (view.rack.history x) c (view.rack.history y)
-    → IsCalmOver view AnyReturns first.geometry c borne.over.means.story
+    → StaysWithinToleranceOver view AnyReturns first.geometry c borne.over.means.trace
     (devices x Begun watchers) (devices y borne.session left) borne.over.works
     → EachImage (NamesOnce first.geometry) c

@@ -1,9 +1,9 @@
 //! Which media an array leaves out, over its life.
 
 ghost use Rattle.stair_state.specs.Blocks.{AreEncodingsOf, Codewords, zero_blocks};
-ghost use Rattle.stair_return.specs.Misled.{five};
+ghost use Rattle.stair_reinsert.specs.Misled.{five};
 ghost use Rattle.stair_lives.specs.Example.{EachOpensAmid, EachOpensWithout, HaveAllBut};
-ghost use Rattle.stair_lives.specs.Example.{IsCalmAmid, IsLeftOutAgain};
+ghost use Rattle.stair_lives.specs.Example.{StaysWithinToleranceAmid, IsLeftOutAgain};
 ghost use Rattle.stair_lives.specs.Stale.{AllNameOnce, AllNameOnceWithin, LeftOutStays, MediaStayOut};
 ghost use Rattle.stair_lives.specs.Stale.{MediaStayOutWithin, NeverLiveInStamps, NeverLiveWhileBegun};
 ghost use Rattle.stair_lives.specs.Stale.{NeverStale, NeverStaleWithin, NewestIsFound, OnlyLiveAreRead};
@@ -12,7 +12,7 @@ ghost use Rattle.stair_lives.specs.Stale.{NeverStale, NeverStaleWithin, NewestIs
 pub fn stale_lives<R, W, S, K>()
     // between two calls the newest epoch is one that was acknowledged, and no medium that it left out is live until one is admitted
     ensures never { NeverStale R W S K }
-    // nor is one in a call, whether it ends or is cut, between two deeds
+    // nor is one in a call, whether it ends or is cut, between two items
     ensures within { NeverStaleWithin R W S K }
     // and the survey of such a call finds the newest epoch
     ensures found { NewestIsFound R W S K }
@@ -49,7 +49,7 @@ pub fn stale_example()
     ensures opened { (now words : Codewords) → AreEncodingsOf five zero_blocks now →
         HaveAllBut now words → EachOpensWithout words }
     // that is kept as long as the other slots stay as they are while epochs without the device are established
-    ensures amid { (words : Codewords) → IsCalmAmid words }
+    ensures amid { (words : Codewords) → StaysWithinToleranceAmid words }
     // so the opening leaves it out where the calls keep them so, and the outside does nothing
     ensures opened_amid { (now words : Codewords) → AreEncodingsOf five zero_blocks now →
         HaveAllBut now words → EachOpensAmid words }

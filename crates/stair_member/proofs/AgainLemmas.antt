@@ -27,8 +27,8 @@ use Rattle.stair_member.specs.Fencing.{HasDrawn, HasStood, IsBegun, IsKnownTo, M
 use Rattle.stair_member.specs.Membership.{Membership, IsHere, IsMissing, place_of, why_of}
 use Rattle.stair_member.specs.Reserve.{Bears, HasReached, IsOrderly}
 use Rattle.stair_member.specs.Superblocks.{HoldsSuper, Counts, First, IsSuperOf, Second}
-use Rattle.stair_member.specs.declared.aim.Aim.{Aim}
-use Rattle.stair_member.specs.declared.aim.Aim.TheVariants as aims
+use Rattle.stair_member.specs.declared.aim.EpochChange.{EpochChange}
+use Rattle.stair_member.specs.declared.aim.EpochChange.TheVariants as aims
 use Rattle.stair_member.specs.declared.why.Why.{Why}
 use Rattle.stair_member.specs.declared.why.Why.TheVariants as why
 use Rattle.stair_member.proofs.AttemptLemmas.{gone_down}
@@ -49,7 +49,7 @@ abbrev IsUp : Why → Type 0
 IsUp w = (w ≡ why.Here) ⊎ (w ≡ why.Rebuilding)
 
 -- what is to be here was so, or is admitted or promoted
-was_up : (aim : Aim) (j : ℕ) (w : Why) → IsUp (aimed aim j w) → IsUp w ⊎ ((admitted aim ≡ Some j) ⊎ (aim ≡ aims.Promote j))
+was_up : (aim : EpochChange) (j : ℕ) (w : Why) → IsUp (aimed aim j w) → IsUp w ⊎ ((admitted aim ≡ Some j) ⊎ (aim ≡ aims.Promote j))
 was_up aims.Fence j w up = inl up
 was_up (aims.Admit slot) j w up =
     elim (cases_eq j slot) [
@@ -63,7 +63,7 @@ was_up (aims.Promote slot) j w up =
     ]
 was_up (aims.Stamp frozen label) j w up = inl up
 
-module _ (aim : Aim) (gone : Slots) (m last : Membership) (old new : List Happening) (st : HasStood aim gone m last old new) where
+module _ (aim : EpochChange) (gone : Slots) (m last : Membership) (old new : List Happening) (st : HasStood aim gone m last old new) where
   end : IsMoment old new new
   end = moment_last st.fencing.issued.ran.more st.fencing.issued.ran.is
 
@@ -426,7 +426,7 @@ module _ (aim : Aim) (gone : Slots) (m last : Membership) (old new : List Happen
         joined = λ i j s bears up up'. joined i j s (to_m i s bears) up up' (origin i s (to_m i s bears));
       }
 
-pub again : (aim : Aim) (gone : Slots) (next : Option ℕ) (m last : Membership) (old new : List Happening) → HasStood aim gone m last old new → MayJoin next last new
+pub again : (aim : EpochChange) (gone : Slots) (next : Option ℕ) (m last : Membership) (old new : List Happening) → HasStood aim gone m last old new → MayJoin next last new
     → ¬ IsTrue (stopped new) → IsBegun next last new
 again aim gone next m last old new st joins goes_on = record {
   history = history_on {allowed = IsIssuing st.fencing.issued.slots st.fencing.issued.editions} st.fencing.begun.history st.fencing.issued.ran;
@@ -451,22 +451,22 @@ again aim gone next m last old new st joins goes_on = record {
 -- ---- of the laws
 
 -- what was written up to the end
-written : (aim : Aim) (gone : Slots) (m last : Membership) (old new : List Happening) → (st : HasStood aim gone m last old new)
+written : (aim : EpochChange) (gone : Slots) (m last : Membership) (old new : List Happening) → (st : HasStood aim gone m last old new)
     → AreReserved (admitted aim) st.fencing.issued.slots st.fencing.issued.editions m old new
 written aim gone m last old new st =
     at_last {P = AreReserved (admitted aim) st.fencing.issued.slots st.fencing.issued.editions m old} st.fencing.issued.reserved
 
-pub each_stood : (aim : Aim) (gone : Slots) (m last : Membership) (old new : List Happening) (image : Image) (j : ℕ) → HasStood aim gone m last old new
+pub each_stood : (aim : EpochChange) (gone : Slots) (m last : Membership) (old new : List Happening) (image : Image) (j : ℕ) → HasStood aim gone m last old new
     → CrashMayLeave new image → IsHere last j → HasReached last.array.geometry image last.array.epoch j
 each_stood aim gone m last old new image j st left here =
     here_reached aim gone m last old new st image left (written aim gone m last old new st) j here
 
-pub stood : (aim : Aim) (gone : Slots) (m last : Membership) (old new : List Happening) (image : Image) → HasStood aim gone m last old new
+pub stood : (aim : EpochChange) (gone : Slots) (m last : Membership) (old new : List Happening) (image : Image) → HasStood aim gone m last old new
     → CrashMayLeave new image
     → AllBut last.array.geometry.n last.array.geometry.m (λ j. (why_of last j ≡ why.Here) × HasReached last.array.geometry image last.array.epoch j)
 stood aim gone m last old new image st left = all_reached aim gone m last old new st image left (written aim gone m last old new st)
 
-pub taking_part : (aim : Aim) (gone : Slots) (m last : Membership) (old new : List Happening) (image : Image) (j : ℕ) (current : Superblock)
+pub taking_part : (aim : EpochChange) (gone : Slots) (m last : Membership) (old new : List Happening) (image : Image) (j : ℕ) (current : Superblock)
     → HasStood aim gone m last old new → CrashMayLeave new image → IsHere last j
     → (image j).cell (1 - place_of last j) ≡ Good (spelled (copy_of (edition_of last) j)) → current.array ≡ last.array
     → HasMark last.array.geometry image current (mark_for (why_of last j)) j

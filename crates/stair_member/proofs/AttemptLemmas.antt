@@ -13,9 +13,9 @@ use Rattle.stair_member.specs.Aims.{admitted, aimed, frozen_then, label_then, ma
 use Rattle.stair_member.specs.Counting.{AtMost}
 use Rattle.stair_member.specs.Membership.{Membership, IsMissing, why_of}
 use Rattle.stair_member.specs.RoundSteps.{BeganOut, BrokeOff, DrewOut, Round, WentOn}
-use Rattle.stair_rack.specs.Telling.{Telling}
-use Rattle.stair_member.specs.declared.aim.Aim.{Aim}
-use Rattle.stair_member.specs.declared.aim.Aim.TheVariants as aims
+use Rattle.stair_rack.specs.RackState.{RackState}
+use Rattle.stair_member.specs.declared.aim.EpochChange.{EpochChange}
+use Rattle.stair_member.specs.declared.aim.EpochChange.TheVariants as aims
 use Rattle.stair_member.specs.declared.why.Why.{Why}
 use Rattle.stair_member.specs.declared.why.Why.TheVariants as why
 use Rattle.stair_member.proofs.ChangeLemmas.{IsUp, mark_for_cases, same_number, up_here, was_up}
@@ -24,32 +24,32 @@ use Rattle.stair_rack.proofs.PassCounts.{NoneFalls-then}
 -- ---- aims
 
 -- what is frozen then, of an array that is frozen so, and its label
-pub frozen_same : (aim : Aim) (a b : Configuration) → a.frozen ≡ b.frozen → frozen_then aim a ≡ frozen_then aim b
+pub frozen_same : (aim : EpochChange) (a b : Configuration) → a.frozen ≡ b.frozen → frozen_then aim a ≡ frozen_then aim b
 frozen_same aims.Fence a b same = same
 frozen_same (aims.Admit slot) a b same = same
 frozen_same (aims.Promote slot) a b same = same
 frozen_same (aims.Stamp frozen label) a b same = refl
 
-pub label_same : (aim : Aim) (a b : Configuration) → a.label ≡ b.label → label_then aim a ≡ label_then aim b
+pub label_same : (aim : EpochChange) (a b : Configuration) → a.label ≡ b.label → label_then aim a ≡ label_then aim b
 label_same aims.Fence a b same = same
 label_same (aims.Admit slot) a b same = same
 label_same (aims.Promote slot) a b same = same
 label_same (aims.Stamp frozen label) a b same = refl
 
-frozen_twice : (aim : Aim) (a b : Configuration) → a.frozen ≡ frozen_then aim b → frozen_then aim a ≡ frozen_then aim b
+frozen_twice : (aim : EpochChange) (a b : Configuration) → a.frozen ≡ frozen_then aim b → frozen_then aim a ≡ frozen_then aim b
 frozen_twice aims.Fence a b same = same
 frozen_twice (aims.Admit slot) a b same = same
 frozen_twice (aims.Promote slot) a b same = same
 frozen_twice (aims.Stamp frozen label) a b same = refl
 
-label_twice : (aim : Aim) (a b : Configuration) → a.label ≡ label_then aim b → label_then aim a ≡ label_then aim b
+label_twice : (aim : EpochChange) (a b : Configuration) → a.label ≡ label_then aim b → label_then aim a ≡ label_then aim b
 label_twice aims.Fence a b same = same
 label_twice (aims.Admit slot) a b same = same
 label_twice (aims.Promote slot) a b same = same
 label_twice (aims.Stamp frozen label) a b same = refl
 
 -- aimed at twice
-pub aimed_twice : (aim : Aim) (j : ℕ) (w : Why) → aimed aim j (aimed aim j w) ≡ aimed aim j w
+pub aimed_twice : (aim : EpochChange) (j : ℕ) (w : Why) → aimed aim j (aimed aim j w) ≡ aimed aim j w
 aimed_twice aims.Fence j w = refl
 aimed_twice (aims.Admit slot) j w =
     elim (cases_eq j slot) [
@@ -64,7 +64,7 @@ aimed_twice (aims.Promote slot) j w =
 aimed_twice (aims.Stamp frozen label) j w = refl
 
 -- a slot that is live is live then, but one that is admitted
-pub aimed_here : (aim : Aim) (j : ℕ) → admitted aim ≢ Some j → aimed aim j why.Here ≡ why.Here
+pub aimed_here : (aim : EpochChange) (j : ℕ) → admitted aim ≢ Some j → aimed aim j why.Here ≡ why.Here
 aimed_here aims.Fence j other = refl
 aimed_here (aims.Admit slot) j other = cond-false _ _ _ (ne_eqb j slot (λ same. other (ap (λ (k : ℕ). Some k) (sym same))))
 aimed_here (aims.Promote slot) j other =
@@ -75,7 +75,7 @@ aimed_here (aims.Promote slot) j other =
 aimed_here (aims.Stamp frozen label) j other = refl
 
 -- a slot that is here is here then
-pub aimed_up : (aim : Aim) (j : ℕ) (w : Why) → IsUp w → IsUp (aimed aim j w)
+pub aimed_up : (aim : EpochChange) (j : ℕ) (w : Why) → IsUp w → IsUp (aimed aim j w)
 aimed_up aims.Fence j w up = up
 aimed_up (aims.Admit slot) j w up =
     elim (cases_eq j slot) [
@@ -104,7 +104,7 @@ pub gone_down : (w : Why) → w ≡ why.Gone → ¬ IsUp w
 gone_down w is (inl here) = absurd (cc)
 gone_down w is (inr here) = absurd (cc)
 
-number_up : (aim : Aim) (epoch j joined : ℕ) (m : Mark) → m ≢ mark.Down → joined_then aim epoch j m joined ≡ joined_up aim epoch j joined
+number_up : (aim : EpochChange) (epoch j joined : ℕ) (m : Mark) → m ≢ mark.Down → joined_then aim epoch j m joined ≡ joined_up aim epoch j joined
 number_up aim epoch j joined mark.Live up = refl
 number_up aim epoch j joined mark.Rebuilding up = refl
 number_up aim epoch j joined mark.Down up = absurd (up refl)
@@ -112,7 +112,7 @@ number_up aim epoch j joined mark.Down up = absurd (up refl)
 -- ---- a round
 
 -- the epoch of a round stands in the member
-pub record Whole (aim : Aim) (m last : Membership) : Type 0 where
+pub record Whole (aim : EpochChange) (m last : Membership) : Type 0 where
   pub few : AtMost m.array.geometry.m (IsMissing m)
   pub epoch : last.array.epoch ≡ last.drawn
   pub whys : (j : ℕ) → j < m.array.geometry.n → why_of last j ≡ aimed aim j (why_of m j)
@@ -121,7 +121,7 @@ pub record Whole (aim : Aim) (m last : Membership) : Type 0 where
   pub frozen : last.array.frozen ≡ frozen_then aim m.array
   pub label : last.array.label ≡ label_then aim m.array
 
-pub record Moved (aim : Aim) (m last : Membership) (which : Option ℕ) (old new : Telling) : Type 0 where
+pub record Moved (aim : EpochChange) (m last : Membership) (which : Option ℕ) (old new : RackState) : Type 0 where
   pub geometry : last.array.geometry ≡ m.array.geometry
   pub drawn : last.drawn ≡ m.drawn + 1
   pub whys : (j : ℕ) → j < m.array.geometry.n → (why_of last j ≡ why_of m j) ⊎ (why_of last j ≡ aimed aim j (why_of m j))
@@ -137,7 +137,7 @@ pub record Moved (aim : Aim) (m last : Membership) (which : Option ℕ) (old new
   pub whole : which ≡ None → Whole aim m last
   pub went : ((last.array ≡ m.array) × ((j : ℕ) → why_of last j ≡ why_of m j)) ⊎ Whole aim m last
 
-moved_drawn : (aim : Aim) (m last : Membership) (j : ℕ) (which : Option ℕ) (old new : Telling) → which ≡ Some j → DrewOut m last (Some j) old new
+moved_drawn : (aim : EpochChange) (m last : Membership) (j : ℕ) (which : Option ℕ) (old new : RackState) → which ≡ Some j → DrewOut m last (Some j) old new
     → Moved aim m last which old new
 moved_drawn aim m last j which old new is drew =
     let array : last.array ≡ m.array = ap (λ (x : Membership). x.array) drew.places.rest in record {
@@ -161,7 +161,7 @@ moved_drawn aim m last j which old new is drew =
       went = inl (array, λ i. ap (λ (x : Membership). why_of x i) drew.places.rest);
     }
 
-moved_begun : (aim : Aim) (m mid last : Membership) (which : Option ℕ) (old between new : Telling) → MayBegin aim m → DrewOut m mid None old between
+moved_begun : (aim : EpochChange) (m mid last : Membership) (which : Option ℕ) (old between new : RackState) → MayBegin aim m → DrewOut m mid None old between
     → BeganOut aim mid last which between new → Moved aim m last which old new
 moved_begun aim m mid last which old between new may drew began = record {
   geometry = geometry;
@@ -225,7 +225,7 @@ moved_begun aim m mid last which old between new may drew began = record {
     label : last.array.label ≡ label_then aim m.array
     label = ap (λ (a : Configuration). a.label) array ∙ began.begins.names.label ∙ ap (label_then aim) mid_array
 
-    number_of : (aim : Aim) (epoch j joined : ℕ) → admitted aim ≡ Some j → joined_up aim epoch j joined ≡ epoch
+    number_of : (aim : EpochChange) (epoch j joined : ℕ) → admitted aim ≡ Some j → joined_up aim epoch j joined ≡ epoch
     number_of aims.Fence epoch j joined is = absurd (cc)
     number_of (aims.Admit slot) epoch j joined is = let same : slot ≡ j = cc in cond-true _ _ _ (eq-eqb j slot (sym same))
     number_of (aims.Promote slot) epoch j joined is = absurd (cc)
@@ -246,7 +246,7 @@ moved_begun aim m mid last which old between new may drew began = record {
       label = label;
     }
 
-pub moved : (aim : Aim) (m last : Membership) (which : Option ℕ) (old new : Telling) → MayBegin aim m → Round aim m last which old new
+pub moved : (aim : EpochChange) (m last : Membership) (which : Option ℕ) (old new : RackState) → MayBegin aim m → Round aim m last which old new
     → Moved aim m last which old new
 moved aim m last which old new may (BrokeOff j is drew) = moved_drawn aim m last j which old new is drew
 moved aim m last which old new may (WentOn mid between honest drew began) = moved_begun aim m mid last which old between new may drew began

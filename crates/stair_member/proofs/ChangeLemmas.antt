@@ -13,8 +13,8 @@ use Rattle.stair_super.specs.declared.mark.Mark.TheVariants.{Live, Rebuilding, D
 use Rattle.stair_member.specs.ChangesSteps.{MayBegin, Names, joined_then, joined_up, without}
 use Rattle.stair_member.specs.Aims.{admitted, aimed, mark_for}
 use Rattle.stair_member.specs.Membership.{Membership, IsMarkedFor, IsMembership, member_of, why_of}
-use Rattle.stair_member.specs.declared.aim.Aim.{Aim}
-use Rattle.stair_member.specs.declared.aim.Aim.TheVariants as aims
+use Rattle.stair_member.specs.declared.aim.EpochChange.{EpochChange}
+use Rattle.stair_member.specs.declared.aim.EpochChange.TheVariants as aims
 use Rattle.stair_member.specs.declared.why.Why.{Why}
 use Rattle.stair_member.specs.declared.why.Why.TheVariants as why
 use Rattle.stair_member.proofs.JudgeLemmas.{below_or_last}
@@ -98,20 +98,20 @@ joined_bounds Live joined epoch up is = is
 joined_bounds Rebuilding joined epoch up is = is
 joined_bounds Down joined epoch up is = absurd (up refl)
 
-joined_from : (aim : Aim) (mark : Mark) (epoch j joined : ℕ)
+joined_from : (aim : EpochChange) (mark : Mark) (epoch j joined : ℕ)
     → (mark ≢ Down → (1 ≤ joined_up aim epoch j joined) × (joined_up aim epoch j joined ≤ epoch))
     → IsJoined mark (joined_then aim epoch j mark joined) epoch
 joined_from aim Live epoch j joined bounds = bounds (λ is. cc)
 joined_from aim Rebuilding epoch j joined bounds = bounds (λ is. cc)
 joined_from aim Down epoch j joined bounds = refl
 
-pub same_number : (aim : Aim) (epoch j joined : ℕ) → admitted aim ≢ Some j → joined_up aim epoch j joined ≡ joined
+pub same_number : (aim : EpochChange) (epoch j joined : ℕ) → admitted aim ≢ Some j → joined_up aim epoch j joined ≡ joined
 same_number aims.Fence epoch j joined other = refl
 same_number (aims.Admit slot) epoch j joined other = cond-false _ _ _ (ne_eqb j slot (λ same. other (ap (λ (k : ℕ). Some k) (sym same))))
 same_number (aims.Promote slot) epoch j joined other = refl
 same_number (aims.Stamp frozen label) epoch j joined other = refl
 
-same_number_or : (aim : Aim) (epoch j joined : ℕ) → (joined_up aim epoch j joined ≡ epoch) ⊎ (admitted aim ≢ Some j)
+same_number_or : (aim : EpochChange) (epoch j joined : ℕ) → (joined_up aim epoch j joined ≡ epoch) ⊎ (admitted aim ≢ Some j)
 same_number_or aims.Fence epoch j joined = inr (λ is. cc)
 same_number_or (aims.Admit slot) epoch j joined =
     elim (cases_eq j slot) [
@@ -125,7 +125,7 @@ abbrev pub IsUp : Why → Type 0
 IsUp w = (w ≡ why.Here) ⊎ (w ≡ why.Rebuilding)
 
 -- a slot that is here then, and isn't admitted, was here
-pub was_up : (aim : Aim) (m : Membership) (j : ℕ) → MayBegin aim m → admitted aim ≢ Some j → IsUp (aimed aim j (why_of m j)) → IsUp (why_of m j)
+pub was_up : (aim : EpochChange) (m : Membership) (j : ℕ) → MayBegin aim m → admitted aim ≢ Some j → IsUp (aimed aim j (why_of m j)) → IsUp (why_of m j)
 was_up aims.Fence m j may other up = up
 was_up (aims.Admit slot) m j may other up =
     subst IsUp (cond-false _ _ _ (ne_eqb j slot (λ same. other (ap (λ (k : ℕ). Some k) (sym same))))) up
@@ -137,13 +137,13 @@ was_up (aims.Promote slot) m j may other up =
 was_up (aims.Stamp frozen label) m j may other up = up
 
 -- the slots that the array hasn't aren't aimed at
-aimed_past : (aim : Aim) (m : Membership) (j : ℕ) → MayBegin aim m → m.array.geometry.n ≤ j → aimed aim j (why_of m j) ≡ why_of m j
+aimed_past : (aim : EpochChange) (m : Membership) (j : ℕ) → MayBegin aim m → m.array.geometry.n ≤ j → aimed aim j (why_of m j) ≡ why_of m j
 aimed_past aims.Fence m j may past = refl
 aimed_past (aims.Admit slot) m j may past = cond-false _ _ _ (ne_eqb j slot (λ same. omega (arith, may, past, same)))
 aimed_past (aims.Promote slot) m j may past = cond-false _ _ _ (ne_eqb j slot (λ same. omega (arith, may.0, past, same)))
 aimed_past (aims.Stamp frozen label) m j may past = refl
 
-module _ (aim : Aim) (m : Membership) (named : Configuration) (whys : List Why) (rules : IsMembership m) (may : MayBegin aim m)
+module _ (aim : EpochChange) (m : Membership) (named : Configuration) (whys : List Why) (rules : IsMembership m) (may : MayBegin aim m)
     (names : Names aim m.array whys m.drawn named) (each : (j : ℕ) → j < 32 → slice_index_or whys j why.Here ≡ aimed aim j (why_of m j)) where
   begun_bounds : (j : ℕ) → j < 32 → mark_in named j ≢ Down
       → (1 ≤ joined_up aim m.drawn j (joined_in m.array j)) × (joined_up aim m.drawn j (joined_in m.array j) ≤ m.drawn)

@@ -18,8 +18,8 @@ use Rattle.stair_member.specs.Epochs.{IsGoneOf, IsRefusedBy, IsStanding, IsTaken
 use Rattle.stair_member.specs.Establishing.{Establishes, HasBegun, IsEstablished}
 use Rattle.stair_member.specs.Membership.{Membership, IsHere, IsMembership, why_of}
 use Rattle.stair_member.specs.RoundSteps.{BeganOut, BrokeOff, DrewOut, IsRefused, Round, StandsWithout, WentOn}
-use Rattle.stair_rack.specs.Telling.{Telling}
-use Rattle.stair_member.specs.declared.aim.Aim.{Aim}
+use Rattle.stair_rack.specs.RackState.{RackState}
+use Rattle.stair_member.specs.declared.aim.EpochChange.{EpochChange}
 use Rattle.stair_member.specs.declared.fault.FenceFault.{FenceFault}
 use Rattle.stair_member.specs.declared.why.Why.TheVariants as why
 use Rattle.stair_member.proofs.ApartLemmas.{apart_issued}
@@ -31,7 +31,7 @@ use Rattle.stair_member.proofs.SpreadLemmas.{no_slot}
 use Rattle.stair_member.proofs.TakingLemmas.{IsNamedFor, named_of, taking, taking_only}
 use Rattle.stair_member.proofs.EstablishLemmas.{Attempt, admits_less, aimed_after, aimed_taken, began_after, come_after, dropped_gone, fell_after, gone_after, live_taken, named_after, now_aimed, only, rose_after, single}
 
-pub record Ended (aim : Aim) (m0 last : Membership) (gone : Slots) (old new : Telling) : Type 0 where
+pub record Ended (aim : EpochChange) (m0 last : Membership) (gone : Slots) (old new : RackState) : Type 0 where
   pub rules0 : IsMembership m0
   pub honest : old.honest ≡ new.honest
   pub rules : IsMembership last
@@ -48,7 +48,7 @@ pub record Ended (aim : Aim) (m0 last : Membership) (gone : Slots) (old new : Te
   pub told : IsTrue new.honest
       → HasCome (taking aim m0) m0 last (admitted aim) (HasSlot gone) (IsNamedFor aim gone m0) old.history new.history
 
-taken_small : (aim : Aim) (m0 : Membership) (j : ℕ) → IsMembership m0 → HasSlot (taking aim m0) j → j < 32
+taken_small : (aim : EpochChange) (m0 : Membership) (j : ℕ) → IsMembership m0 → HasSlot (taking aim m0) j → j < 32
 taken_small aim m0 j rules on =
     let most : m0.array.geometry.n ≤ 32 = rules.array.limits.devices.1 in
     elim (taking_only aim m0 j on) [
@@ -56,7 +56,7 @@ taken_small aim m0 j rules on =
       | inr joins ↦ omega (arith, most, joins.1)
     ]
 
-pub ended : (aim : Aim) (m0 last : Membership) (gone : Slots) (refusal : Option FenceFault) (old new : Telling) → Ended aim m0 last gone old new
+pub ended : (aim : EpochChange) (m0 last : Membership) (gone : Slots) (refusal : Option FenceFault) (old new : RackState) → Ended aim m0 last gone old new
     → (refusal ≡ None → IsEstablished aim m0 last gone)
     → ((fault : FenceFault) → refusal ≡ Some fault → IsRefusedBy last fault × (last.drawn ≡ m0.drawn + slot_count gone))
     → (IsTrue new.honest → refusal ≡ None → StandsOnDisk (admitted aim) last old.history new.history) → Establishes aim m0 last refusal old new
@@ -117,7 +117,7 @@ ended aim m0 last gone refusal old new e done refused on_disk = record {
   on_disk = on_disk;
 }
 
-pub attempt_refused : (aim0 aim : Aim) (m0 m last : Membership) (gone : Slots) (fault : FenceFault) (old now new : Telling)
+pub attempt_refused : (aim0 aim : EpochChange) (m0 m last : Membership) (gone : Slots) (fault : FenceFault) (old now new : RackState)
     → Attempt aim0 aim m0 m gone old now → old.honest ≡ new.honest → now.honest ≡ new.honest → IsRefused m last fault now new → Establishes aim0 m0 last (Some fault) old new
 attempt_refused aim0 aim m0 m last gone fault old now new a whole same refused =
     subst (λ (x : Membership). Establishes aim0 m0 x (Some fault) old new) (sym refused.member)
@@ -142,7 +142,7 @@ attempt_refused aim0 aim m0 m last gone fault old now new a whole same refused =
 
 -- ---- the epoch stands
 
-module _ (aim0 aim : Aim) (m0 m last : Membership) (gone : Slots) (old now new : Telling) (a : Attempt aim0 aim m0 m gone old now)
+module _ (aim0 aim : EpochChange) (m0 m last : Membership) (gone : Slots) (old now new : RackState) (a : Attempt aim0 aim m0 m gone old now)
     (round : Round aim m last None now new) (same : now.honest ≡ new.honest) (first : old.honest ≡ new.honest) (rules : IsMembership last) where
   moves_last : Moved aim m last None now new
   moves_last = moved aim m last None now new a.may round
@@ -234,13 +234,13 @@ module _ (aim0 aim : Aim) (m0 m last : Membership) (gone : Slots) (old now new :
           (here_taken_in mid between which drew began) (began.told honest) began.places (single aim0 aim m0 m gone old now a) (only aim0 aim m0 m gone old now a)
           (begun_named mid between which drew began) none
         where
-          begun_named : (mid : Membership) (between : Telling) (which : Option ℕ) (drew : DrewOut m mid None now between)
+          begun_named : (mid : Membership) (between : RackState) (which : Option ℕ) (drew : DrewOut m mid None now between)
               (began : BeganOut aim mid last which between new) → IsNamedFor aim0 gone m0 began.begun.array
           begun_named mid between which drew began =
               subst (λ (x : Membership). IsNamedFor aim0 gone m0 x.array) began.places.rest
               (named_after aim0 aim m0 m gone old now a last None new round)
 
-          here_taken_in : (mid : Membership) (between : Telling) (which : Option ℕ) (drew : DrewOut m mid None now between)
+          here_taken_in : (mid : Membership) (between : RackState) (which : Option ℕ) (drew : DrewOut m mid None now between)
               (began : BeganOut aim mid last which between new) (j : ℕ) → IsHere began.begun j → HasSlot (taking aim0 m0) j
           here_taken_in mid between which drew began j here =
               let same_geometry : began.begun.array.geometry ≡ m.array.geometry =

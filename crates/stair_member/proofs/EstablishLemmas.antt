@@ -18,9 +18,9 @@ use Rattle.stair_member.specs.Establishing.{Did, HasBegun, NotYet}
 use Rattle.stair_member.specs.HandSteps.{is_twice}
 use Rattle.stair_member.specs.Membership.{Membership, IsHere, IsMembership, why_of}
 use Rattle.stair_member.specs.RoundSteps.{BeganOut, BrokeOff, DrewOut, Round, WentOn}
-use Rattle.stair_rack.specs.Telling.{Telling}
-use Rattle.stair_member.specs.declared.aim.Aim.{Aim}
-use Rattle.stair_member.specs.declared.aim.Aim.TheVariants as aims
+use Rattle.stair_rack.specs.RackState.{RackState}
+use Rattle.stair_member.specs.declared.aim.EpochChange.{EpochChange}
+use Rattle.stair_member.specs.declared.aim.EpochChange.TheVariants as aims
 use Rattle.stair_member.specs.declared.why.Why.{Why}
 use Rattle.stair_member.specs.declared.why.Why.TheVariants as why
 use Rattle.stair_member.proofs.AttemptLemmas.{Moved, Whole, aimed_twice, aimed_up, gone_down, mark_up, moved}
@@ -30,7 +30,7 @@ use Rattle.stair_member.proofs.RoundLemmas.{HasCome, come_begun, come_drawn, com
 use Rattle.stair_member.proofs.SpreadLemmas.{twice_is}
 use Rattle.stair_member.proofs.TakingLemmas.{IsAway, IsNamedFor, admits_below, admits_up, began_wider, named_of, taking, taking_all}
 
-pub record Attempt (aim0 aim : Aim) (m0 m : Membership) (gone : Slots) (old now : Telling) : Type 0 where
+pub record Attempt (aim0 aim : EpochChange) (m0 m : Membership) (gone : Slots) (old now : RackState) : Type 0 where
   pub rules0 : IsMembership m0
   pub rules : IsMembership m
   pub geometry : m.array.geometry ≡ m0.array.geometry
@@ -59,7 +59,7 @@ pub record Attempt (aim0 aim : Aim) (m0 m : Membership) (gone : Slots) (old now 
   pub told : IsTrue now.honest
       → HasCome (taking aim0 m0) m0 m (admitted aim0) (HasSlot gone) (IsNamedFor aim0 gone m0) old.history now.history
 
-pub attempt_first : (aim : Aim) (m : Membership) (gone : Slots) (now : Telling) → IsMembership m → MayBegin aim m
+pub attempt_first : (aim : EpochChange) (m : Membership) (gone : Slots) (now : RackState) → IsMembership m → MayBegin aim m
     → ((j : ℕ) → admitted aim ≡ Some j → why_of m j ≢ why.Here) → IsSlotSet gone → ((j : ℕ) → ¬ HasSlot gone j) → Attempt aim aim m m gone now now
 attempt_first aim m gone now rules may down formed none = record {
   rules0 = rules;
@@ -90,7 +90,7 @@ attempt_first aim m gone now rules may down formed none = record {
 -- ---- slots that an epoch drops
 
 -- a slot that takes part is aimed to be up, so one that is dropped was gone
-taken_up : (aim : Aim) (m : Membership) (j : ℕ) → IsTaken (admitted aim) m j → IsUp (aimed aim j (why_of m j))
+taken_up : (aim : EpochChange) (m : Membership) (j : ℕ) → IsTaken (admitted aim) m j → IsUp (aimed aim j (why_of m j))
 taken_up aim m j (inl here) = aimed_up aim j (why_of m j) here.why
 taken_up aim m j (inr joins) = inr (admits_up aim j (why_of m j) joins.0)
 
@@ -98,7 +98,7 @@ taken_below : (joining : Option ℕ) (m : Membership) (j : ℕ) → IsTaken join
 taken_below joining m j (inl here) = here.below
 taken_below joining m j (inr joins) = joins.1
 
-pub dropped_gone : (aim : Aim) (m : Membership) (gone : Slots) (c : Configuration) (j : ℕ) → IsNamedFor aim gone m c
+pub dropped_gone : (aim : EpochChange) (m : Membership) (gone : Slots) (c : Configuration) (j : ℕ) → IsNamedFor aim gone m c
     → IsDropped (admitted aim) m c j → HasSlot gone j
 dropped_gone aim m gone c j (inl same) drops =
     let later : m.array.epoch < c.epoch = drops.is_new in
@@ -112,7 +112,7 @@ dropped_gone aim m gone c j (inr named) drops =
 
 -- ---- of an attempt
 
-module _ (aim0 aim : Aim) (m0 m : Membership) (gone : Slots) (old now : Telling) (a : Attempt aim0 aim m0 m gone old now) where
+module _ (aim0 aim : EpochChange) (m0 m : Membership) (gone : Slots) (old now : RackState) (a : Attempt aim0 aim m0 m gone old now) where
   devices : m0.array.geometry.n ≤ 32
   devices = a.rules0.array.limits.devices.1
 
@@ -146,12 +146,12 @@ module _ (aim0 aim : Aim) (m0 m : Membership) (gone : Slots) (old now : Telling)
   now_aimed j below out =
       elim a.left [
         | inl same ↦
-            ap (λ (x : Aim). aimed x j (why_of m j)) same ∙ elim (a.others j below out) [
+            ap (λ (x : EpochChange). aimed x j (why_of m j)) same ∙ elim (a.others j below out) [
               | inl is ↦ ap (aimed aim0 j) is
               | inr is ↦ ap (aimed aim0 j) is ∙ aimed_twice aim0 j (why_of m0 j)
             ]
         | inr away ↦
-            ap (λ (x : Aim). aimed x j (why_of m j)) away.0 ∙ elim (a.others j below out) [
+            ap (λ (x : EpochChange). aimed x j (why_of m j)) away.0 ∙ elim (a.others j below out) [
               | inl is ↦ is ∙ sym (away.1.whys j (why_of m0 j) out)
               | inr is ↦ is
             ]
@@ -195,7 +195,7 @@ module _ (aim0 aim : Aim) (m0 m : Membership) (gone : Slots) (old now : Telling)
         | inr no_one ↦ was_here j below (was_up aim m j a.may (λ at. false≢true (sym no_one ∙ twice_at (admitted aim) j at)) up)
       ])
 
-  module _ (last : Membership) (which : Option ℕ) (new : Telling) (round : Round aim m last which now new) where
+  module _ (last : Membership) (which : Option ℕ) (new : RackState) (round : Round aim m last which now new) where
     moves : Moved aim m last which now new
     moves = moved aim m last which now new a.may round
 
@@ -289,7 +289,7 @@ module _ (aim0 aim : Aim) (m0 m : Membership) (gone : Slots) (old now : Telling)
         before : HasCome (taking aim0 m0) m0 m (admitted aim0) (HasSlot gone) (IsNamedFor aim0 gone m0) old.history now.history
         before = a.told (same ∙ honest)
 
-        here_taken : (mid : Membership) (between : Telling) (drew : DrewOut m mid None now between) (began : BeganOut aim mid last which between new) (j : ℕ)
+        here_taken : (mid : Membership) (between : RackState) (drew : DrewOut m mid None now between) (began : BeganOut aim mid last which between new) (j : ℕ)
             → IsHere began.begun j → HasSlot (taking aim0 m0) j
         here_taken mid between drew began j here =
             let same_geometry : began.begun.array.geometry ≡ m.array.geometry =

@@ -22,7 +22,7 @@ use Rattle.stair_member.specs.Fencing.{IsFencing, IsKnownTo}
 use Rattle.stair_member.specs.Membership.{Membership}
 use Rattle.stair_member.specs.Reserve.{Bears}
 use Rattle.stair_member.specs.Superblocks.{HoldsSuper, IsSuperOf, Counts}
-use Rattle.stair_member.specs.declared.aim.Aim.{Aim}
+use Rattle.stair_member.specs.declared.aim.EpochChange.{EpochChange}
 use Rattle.stair_member.proofs.CountingLemmas.{common}
 use Rattle.stair_member.proofs.EditionLemmas.{Comes, Stayed, Harmed, Cut, Wrote, IsOf, Entry, Issue, IsWritable, SlotComes, SameMedium, NothingThere, bears_below, bears_of, held_of, holds_copy, slot_comes, writable_or_not}
 use Rattle.stair_member.proofs.NewestLemmas.{IsNoOlder, super_no_older}
@@ -47,11 +47,11 @@ pub record Reaches (m : Membership) (draw epoch : ℕ) (s : Superblock) : Type 0
   pub epochs : m.drawn < draw → epoch ≤ s.array.epoch
 
 -- what the member knew when the call began
-pub known : {aim : Aim} {gone : Slots} {m last : Membership} {old h new : List Happening} → IsFencing aim gone m last old h new
+pub known : {aim : EpochChange} {gone : Slots} {m last : Membership} {old h new : List Happening} → IsFencing aim gone m last old h new
     → IsKnownTo (admitted aim) m (IsAttached old) (image_now old)
 known {old = old} f = f.begun.known (image_now old) (CrashMayLeave-now old)
 
-module _ (aim : Aim) (gone : Slots) (m last : Membership) (old h new : List Happening) (f : IsFencing aim gone m last old h new)
+module _ (aim : EpochChange) (gone : Slots) (m last : Membership) (old h new : List Happening) (f : IsFencing aim gone m last old h new)
     (image : Image) (left : CrashMayLeave h image)
     (r : AreReserved (admitted aim) f.issued.slots f.issued.editions m old h) where
   pub comes : (j : ℕ) → j < m.array.geometry.n
@@ -171,7 +171,7 @@ module _ (aim : Aim) (gone : Slots) (m last : Membership) (old h new : List Happ
         | inr tie ↦ let same : s.array.epoch ≡ current.array.epoch = tie.0 in omega arith
       ]
 
-pub no_earlier : {offline : ℕ → Type 0} (aim : Aim) (gone : Slots) (m last : Membership) (old h new : List Happening) (image : Image)
+pub no_earlier : {offline : ℕ → Type 0} (aim : EpochChange) (gone : Slots) (m last : Membership) (old h new : List Happening) (image : Image)
     (current : Superblock) (draw epoch : ℕ) (f : IsFencing aim gone m last old h new) → CrashMayLeave h image
     → IsCurrent m.array.geometry image current → AtMost m.array.geometry.m (IsFailed offline m.array.geometry image current) → m.drawn < draw
     → AllBut m.array.geometry.n m.array.geometry.m (HasDraw f.issued.editions draw epoch old h) → epoch ≤ current.array.epoch

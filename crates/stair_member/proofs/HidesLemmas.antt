@@ -21,8 +21,8 @@ use Rattle.stair_member.specs.Fencing.{IsFencing}
 use Rattle.stair_member.specs.Membership.{IsHere, Membership, place_of, why_of}
 use Rattle.stair_member.specs.Reserve.{Bears, HidesNoOther}
 use Rattle.stair_member.specs.Superblocks.{Counts, First, HoldsSuper, IsSuperOf, Second}
-use Rattle.stair_member.specs.declared.aim.Aim.{Aim}
-use Rattle.stair_member.specs.declared.aim.Aim.TheVariants as aims
+use Rattle.stair_member.specs.declared.aim.EpochChange.{EpochChange}
+use Rattle.stair_member.specs.declared.aim.EpochChange.TheVariants as aims
 use Rattle.stair_member.specs.declared.why.Why.{Why}
 use Rattle.stair_member.specs.declared.why.Why.TheVariants.{Rebuilding}
 use Rattle.stair_member.proofs.EditionLemmas.{Entry, IsOf, IsWritable, Issue, bears_below, none_held_there}
@@ -31,7 +31,7 @@ use Rattle.stair_member.proofs.SuperLemmas.{holds_once, super_at, super_by_holds
 use Rattle.stair_member.proofs.TurnLemmas.{turn_in}
 
 -- the slot that is admitted is rebuilt
-aimed_joining : (aim : Aim) (j : ℕ) (w : Why) → admitted aim ≡ Some j → aimed aim j w ≡ Rebuilding
+aimed_joining : (aim : EpochChange) (j : ℕ) (w : Why) → admitted aim ≡ Some j → aimed aim j w ≡ Rebuilding
 aimed_joining aims.Fence j w joins = absurd (cc)
 aimed_joining (aims.Admit slot) j w joins = cond-true _ _ _ (eq-eqb j slot (sym (some_once slot j joins)))
   where
@@ -40,7 +40,7 @@ aimed_joining (aims.Admit slot) j w joins = cond-true _ _ _ (eq-eqb j slot (sym 
 aimed_joining (aims.Promote slot) j w joins = absurd (cc)
 aimed_joining (aims.Stamp frozen label) j w joins = absurd (cc)
 
-module _ (aim : Aim) (gone : Slots) (m last : Membership) (old h new : List Happening) (f : IsFencing aim gone m last old h new)
+module _ (aim : EpochChange) (gone : Slots) (m last : Membership) (old h new : List Happening) (f : IsFencing aim gone m last old h new)
     (image : Image) (left : CrashMayLeave h image)
     (r : AreReserved (admitted aim) f.issued.slots f.issued.editions m old h)
     (hidden : (j : ℕ) (s newest : Superblock) → Bears m.array.geometry j ((image j).cell) s → IsSuperOf ((image j).cell) newest

@@ -14,8 +14,8 @@ use Rattle.stair_member.specs.Aims.{IsAimed, admitted}
 use Rattle.stair_member.specs.Editions.{Edition}
 use Rattle.stair_member.specs.Epochs.{Issued}
 use Rattle.stair_member.specs.Membership.{Membership, IsMembership}
-use Rattle.stair_member.specs.declared.aim.Aim.{Aim}
-use Rattle.stair_member.specs.declared.aim.Aim.TheVariants as aims
+use Rattle.stair_member.specs.declared.aim.EpochChange.{EpochChange}
+use Rattle.stair_member.specs.declared.aim.EpochChange.TheVariants as aims
 
 -- ---- what an epoch may name
 
@@ -58,7 +58,7 @@ down_joined array j is within down =
 
 -- ---- the slot that is admitted
 
-admitted_or : (aim : Aim) (j : ℕ) → (admitted aim ≡ Some j) ⊎ (admitted aim ≢ Some j)
+admitted_or : (aim : EpochChange) (j : ℕ) → (admitted aim ≡ Some j) ⊎ (admitted aim ≢ Some j)
 admitted_or aims.Fence j = inr (λ is. cc)
 admitted_or (aims.Admit slot) j =
     elim (cases_eq j slot) [
@@ -70,7 +70,7 @@ admitted_or (aims.Stamp frozen label) j = inr (λ is. cc)
 
 -- ---- the epochs of a call
 
-module _ (aim : Aim) (gone : Slots) (m last : Membership) (old new : List Happening) (is : IsMembership m)
+module _ (aim : EpochChange) (gone : Slots) (m last : Membership) (old new : List Happening) (is : IsMembership m)
     (issued : Issued aim gone m last old new) where
   first_is : IsNamed m.array
   first_is = record { rules = is.array; marks = is.sizes.marks }

@@ -27,7 +27,7 @@ use Rattle.stair_member.specs.Fencing.{IsFencing, HasDrawn}
 use Rattle.stair_member.specs.Membership.{Membership, IsHere, place_of}
 use Rattle.stair_member.specs.Reserve.{Bears, HasReached, HasReserved, IsOrderly, NoEpochAbove}
 use Rattle.stair_member.specs.Superblocks.{HoldsSuper, IsSuperOf, First, Second, Counts}
-use Rattle.stair_member.specs.declared.aim.Aim.{Aim}
+use Rattle.stair_member.specs.declared.aim.EpochChange.{EpochChange}
 use Rattle.stair_member.proofs.CountingLemmas.{all_but_mapped}
 use Rattle.stair_member.proofs.DecisionLemmas.{no_super, super_decided}
 use Rattle.stair_member.proofs.EditionLemmas.{Comes, Stayed, Harmed, Cut, Wrote, IsOf, Entry, Issue, IsWritable, SlotComes, SameMedium, NothingThere, bears_below, held_of, holds_copy, none_held_there, writable_or_not}
@@ -125,7 +125,7 @@ latest_of (x ∷ xs) bound =
           ]
     ]
 
-module _ (aim : Aim) (gone : Slots) (m last : Membership) (old h new : List Happening) (f : IsFencing aim gone m last old h new)
+module _ (aim : EpochChange) (gone : Slots) (m last : Membership) (old h new : List Happening) (f : IsFencing aim gone m last old h new)
     (image : Image) (left : CrashMayLeave h image)
     (r : AreReserved (admitted aim) f.issued.slots f.issued.editions m old h) where
   -- of a superblock that stood there when the call began
@@ -670,14 +670,14 @@ module _ (aim : Aim) (gone : Slots) (m last : Membership) (old h new : List Happ
         (from aim gone m last old h new f image left r i a of_a) (from aim gone m last old h new f image left r k b of_b) le up up';
   }
 
-pub orderly : (aim : Aim) (gone : Slots) (m last : Membership) (old h new : List Happening) (image : Image) → IsFencing aim gone m last old h new
+pub orderly : (aim : EpochChange) (gone : Slots) (m last : Membership) (old h new : List Happening) (image : Image) → IsFencing aim gone m last old h new
     → CrashMayLeave h image → IsOrderly m.array.geometry image
 orderly aim gone m last old h new image f left =
     orderly_then aim gone m last old h new f image left
     (at_moment {P = AreReserved (admitted aim) f.issued.slots f.issued.editions m old} f.issued.reserved f.moment)
 
 -- each slot has still reached what it had reached, but the one that joins
-pub each_reached : (aim : Aim) (gone : Slots) (m last : Membership) (old h new : List Happening) (image : Image) (j epoch : ℕ)
+pub each_reached : (aim : EpochChange) (gone : Slots) (m last : Membership) (old h new : List Happening) (image : Image) (j epoch : ℕ)
     → IsFencing aim gone m last old h new → CrashMayLeave h image → epoch ≤ m.array.epoch → admitted aim ≢ Some j
     → HasReached m.array.geometry (image_now old) epoch j → HasReached m.array.geometry image epoch j
 each_reached aim gone m last old h new image j epoch f left =
@@ -685,7 +685,7 @@ each_reached aim gone m last old h new image j epoch f left =
     (at_moment {P = AreReserved (admitted aim) f.issued.slots f.issued.editions m old} f.issued.reserved f.moment) j epoch
 
 -- so that all slots but m have
-pub reached_on : (aim : Aim) (gone : Slots) (m last : Membership) (old h new : List Happening) (image : Image) → IsFencing aim gone m last old h new
+pub reached_on : (aim : EpochChange) (gone : Slots) (m last : Membership) (old h new : List Happening) (image : Image) → IsFencing aim gone m last old h new
     → CrashMayLeave h image
     → AllBut m.array.geometry.n m.array.geometry.m
     (λ j. (admitted aim ≢ Some j) × HasReached m.array.geometry (image_now old) m.array.epoch j)

@@ -7,7 +7,7 @@ use Rattle.stair_rack.specs.History.{Happening, Attach, Read, slot_state}
 use Rattle.stair_rack.specs.Offline.{IsOffline}
 use Rattle.stair_rack.specs.RackCounts.{NoneFalls}
 use Rattle.stair_rack.specs.Sector.{Cell, Good, Damaged, content}
-use Rattle.stair_rack.specs.Telling.{IsFoundGone, IsLater, IsReading, Telling, telling}
+use Rattle.stair_rack.specs.RackState.{IsFoundGone, IsLater, IsReading, RackState, rack_state}
 use Rattle.stair_rack.specs.declared.rack.Got.{Got}
 use Rattle.stair_rack.specs.declared.rack.Got.TheVariants as got
 use Rattle.stair_rack.specs.declared.rack.Reply.TheVariants as reply
@@ -15,7 +15,7 @@ use Rattle.stair_rack.proofs.CallLemmas.{attach_done, attach_gone}
 use Rattle.stair_rack.proofs.MomentLemmas.{IsThis, at_end, calls_ran, ran_join, ran_none}
 use Rattle.stair_rack.proofs.OfflineLemmas.{held_on, offline_from_unready, offline_now, pulls_on}
 use Rattle.stair_rack.proofs.ReadLemmas.{was_read_gone}
-use Rattle.stair_rack.proofs.TellingLemmas.{gone_wider, later_called, later_join, later_none, reading_bad, reading_good, reading_wider}
+use Rattle.stair_rack.proofs.RackStateLemmas.{gone_wider, later_called, later_join, later_none, reading_bad, reading_good, reading_wider}
 use Rattle.stair_super.specs.Spelling.{SpellsSuperblock}
 use Rattle.stair_super.specs.Superblock.{Superblock}
 use Rattle.stair_member.specs.Asked.{AsksSlot, FindsSlot, IsWhatWasRead, FoundBoth, FoundNone}
@@ -34,12 +34,12 @@ use Rattle.stair_member.proofs.SuperLemmas.{super_held}
 
 module _ (honest : Bool) (old new : List Happening) (bads bads' : ℕ) (gones gones' : ℕ → ℕ) (j k : ℕ) (began : IsTrue honest → IsHistory old)
     (counts : NoneFalls bads bads' gones gones') where
-  later : (answer : Got) → (IsTrue honest → Calls old new j (Read k answer)) → IsLater (telling honest old bads gones) (telling honest new bads' gones')
+  later : (answer : Got) → (IsTrue honest → Calls old new j (Read k answer)) → IsLater (rack_state honest old bads gones) (rack_state honest new bads' gones')
   later answer told = later_called honest old new bads bads' gones gones' j (Read k answer) told counts
 
   pub probed_block : (bytes : List ℕ) (s : Superblock) → (IsTrue honest → Calls old new j (Read k got.Good))
       → (IsTrue honest → content ((slot_state new j).sector k) ≡ Good bytes) → SpellsSuperblock bytes s
-      → ProbesPlace j k (probe.Block s) (telling honest old bads gones) (telling honest new bads' gones')
+      → ProbesPlace j k (probe.Block s) (rack_state honest old bads gones) (rack_state honest new bads' gones')
   probed_block bytes s told good spells = record {
     later = later got.Good told;
     began = began;
@@ -55,7 +55,7 @@ module _ (honest : Bool) (old new : List Happening) (bads bads' : ℕ) (gones go
 
   pub probed_nothing : (bytes : List ℕ) → (IsTrue honest → Calls old new j (Read k got.Good))
       → (IsTrue honest → content ((slot_state new j).sector k) ≡ Good bytes) → ((s : Superblock) → ¬ SpellsSuperblock bytes s)
-      → ProbesPlace j k probe.Nothing (telling honest old bads gones) (telling honest new bads' gones')
+      → ProbesPlace j k probe.Nothing (rack_state honest old bads gones) (rack_state honest new bads' gones')
   probed_nothing bytes told good none = record {
     later = later got.Good told;
     began = began;
@@ -70,7 +70,7 @@ module _ (honest : Bool) (old new : List Happening) (bads bads' : ℕ) (gones go
   }
 
   pub probed_bad : (IsTrue honest → Calls old new j (Read k got.Bad)) → Rose bads bads'
-      → ProbesPlace j k probe.Nothing (telling honest old bads gones) (telling honest new bads' gones')
+      → ProbesPlace j k probe.Nothing (rack_state honest old bads gones) (rack_state honest new bads' gones')
   probed_bad told rose = record {
     later = later got.Bad told;
     began = began;
@@ -85,7 +85,7 @@ module _ (honest : Bool) (old new : List Happening) (bads bads' : ℕ) (gones go
   }
 
   pub probed_gone : (IsTrue honest → Calls old new j (Read k got.Gone)) → Rose (gones j) (gones' j)
-      → ProbesPlace j k probe.Gone (telling honest old bads gones) (telling honest new bads' gones')
+      → ProbesPlace j k probe.Gone (rack_state honest old bads gones) (rack_state honest new bads' gones')
   probed_gone told rose = record {
     later = later got.Gone told;
     began = began;
@@ -102,7 +102,7 @@ module _ (honest : Bool) (old new : List Happening) (bads bads' : ℕ) (gones go
 -- BOTH READS
 
 -- A slot that an attach found is gone to a call after it: it is offline.
-gone_after : (old att new : Telling) (j : ℕ) → IsLater old att → IsLater att new → Rose (att.gones j) (new.gones j)
+gone_after : (old att new : RackState) (j : ℕ) → IsLater old att → IsLater att new → Rose (att.gones j) (new.gones j)
     → (IsTrue new.honest → Calls old.history att.history j (Attach reply.Done)) → (IsTrue new.honest → is_ready new.history j ≡ false)
     → IsFoundGone j old new
 gone_after old att new j first second rose attached unready = (
@@ -114,7 +114,7 @@ gone_after old att new j first second rose attached unready = (
       (held_on {allowed = any_call} j (second.ran is) (attach_done old.history att.history j old.history (omega arith) (attached is))) (unready is))),
 )
 
-module _ {j : ℕ} {slot : SlotProbe} {old new : Telling} (probes : ProbesSlot j slot old new) where
+module _ {j : ℕ} {slot : SlotProbe} {old new : RackState} (probes : ProbesSlot j slot old new) where
   pub probe_later : IsLater old new
   probe_later = later_join probes.first.later probes.second.later
 
@@ -148,7 +148,7 @@ module _ {j : ℕ} {slot : SlotProbe} {old new : Telling} (probes : ProbesSlot j
       read_by (IsPlaceFound.Unread lost is) = absurd (here lost)
 
   -- one that was attached before, and was gone, is found gone
-  module _ (start att : Telling) (first : IsLater start att) (second : IsLater att old)
+  module _ (start att : RackState) (first : IsLater start att) (second : IsLater att old)
       (attached : IsTrue new.honest → Calls start.history att.history j (Attach reply.Done)) where
     gone_first : slot.first ≡ probe.Gone → IsFoundGone j start new
     gone_first lost =
@@ -179,7 +179,7 @@ damaged_bare has = no_super Damaged has.super refl has.holds
 
 pub sight_gone : (honest : Bool) (old new : List Happening) (bads bads' : ℕ) (gones gones' : ℕ → ℕ) (j : ℕ)
     → (IsTrue honest → Calls old new j (Attach reply.Gone)) → Rose (gones j) (gones' j)
-    → IsSight j (telling honest old bads gones) (telling honest new bads' gones') None 0 true
+    → IsSight j (rack_state honest old bads gones) (rack_state honest new bads' gones') None 0 true
 sight_gone honest old new bads bads' gones gones' j told rose = record {
   cell = λ k. Damaged;
   places = λ k below. IsPlaceFound.Unread refl refl;
@@ -202,7 +202,7 @@ read_mapped gone gone' got.Bad h j k cell into is = is
 read_mapped gone gone' got.Gone h j k cell into is = (is.0, into is.1)
 
 -- The slot was attached, and both places were read.
-module _ {j : ℕ} {slot : SlotProbe} (old att new : Telling) (probes : ProbesSlot j slot att new) (attach : IsLater old att)
+module _ {j : ℕ} {slot : SlotProbe} (old att new : RackState) (probes : ProbesSlot j slot att new) (attach : IsLater old att)
     (attached : IsTrue new.honest → Calls old.history att.history j (Attach reply.Done)) where
   first_called : IsTrue new.honest → Calls att.history probes.between.history j (Read 0 probes.first.answer)
   first_called is = probes.first.called (probes.second.later.honest ∙ is)

@@ -14,9 +14,9 @@ use Rattle.stair_member.specs.Epochs.{IsTaken}
 use Rattle.stair_member.specs.Aims.{admitted, aimed, frozen_then, label_then}
 use Rattle.stair_member.specs.Membership.{Membership, IsMembership, why_of}
 use Rattle.stair_member.specs.RoundSteps.{Round, left_after}
-use Rattle.stair_rack.specs.Telling.{Telling}
-use Rattle.stair_member.specs.declared.aim.Aim.{Aim}
-use Rattle.stair_member.specs.declared.aim.Aim.TheVariants as aims
+use Rattle.stair_rack.specs.RackState.{RackState}
+use Rattle.stair_member.specs.declared.aim.EpochChange.{EpochChange}
+use Rattle.stair_member.specs.declared.aim.EpochChange.TheVariants as aims
 use Rattle.stair_member.specs.declared.why.Why.{Why}
 use Rattle.stair_member.specs.declared.why.Why.TheVariants as why
 use Rattle.stair_member.proofs.AttemptLemmas.{Moved, aimed_up, gone_down, moved}
@@ -26,7 +26,7 @@ use Rattle.stair_member.proofs.TakingLemmas.{IsAway, IsNamedFor, admits_below, a
 use Rattle.stair_member.proofs.EstablishLemmas.{Attempt, aimed_taken, began_after, come_after, fell_after, gone_after, joined_after, rose_after, why_after}
 
 -- the aim goes on, and isn't at this slot; or it was at this slot, and nothing is left of it
-left_which : (aim : Aim) (j : ℕ) → ((left_after aim j ≡ aim) × ((w : Why) → aimed aim j w ≡ w))
+left_which : (aim : EpochChange) (j : ℕ) → ((left_after aim j ≡ aim) × ((w : Why) → aimed aim j w ≡ w))
     ⊎ ((left_after aim j ≡ aims.Fence) × ((gone : Slots) → HasSlot gone j → IsAway aim gone))
 left_which aims.Fence j = inl (refl, λ w. refl)
 left_which (aims.Admit slot) j =
@@ -67,21 +67,21 @@ all_slots-has : (j : ℕ) → HasSlot (all_slots j) j
 unfolding all_slots
 all_slots-has j = get_or-replicate (suc j) j true false (omega arith)
 
-left_frozen : (aim : Aim) (j : ℕ) (c : Configuration) → frozen_then (left_after aim j) c ≡ frozen_then aim c
+left_frozen : (aim : EpochChange) (j : ℕ) (c : Configuration) → frozen_then (left_after aim j) c ≡ frozen_then aim c
 left_frozen aim j c =
     elim (left_which aim j) [
-      | inl on ↦ ap (λ (x : Aim). frozen_then x c) on.0
-      | inr off ↦ ap (λ (x : Aim). frozen_then x c) off.0 ∙ sym ((off.1 (all_slots j) (all_slots-has j)).frozen c)
+      | inl on ↦ ap (λ (x : EpochChange). frozen_then x c) on.0
+      | inr off ↦ ap (λ (x : EpochChange). frozen_then x c) off.0 ∙ sym ((off.1 (all_slots j) (all_slots-has j)).frozen c)
     ]
 
-left_label : (aim : Aim) (j : ℕ) (c : Configuration) → label_then (left_after aim j) c ≡ label_then aim c
+left_label : (aim : EpochChange) (j : ℕ) (c : Configuration) → label_then (left_after aim j) c ≡ label_then aim c
 left_label aim j c =
     elim (left_which aim j) [
-      | inl on ↦ ap (λ (x : Aim). label_then x c) on.0
-      | inr off ↦ ap (λ (x : Aim). label_then x c) off.0 ∙ sym ((off.1 (all_slots j) (all_slots-has j)).label c)
+      | inl on ↦ ap (λ (x : EpochChange). label_then x c) on.0
+      | inr off ↦ ap (λ (x : EpochChange). label_then x c) off.0 ∙ sym ((off.1 (all_slots j) (all_slots-has j)).label c)
     ]
 
-away_more : (aim : Aim) (gone more : Slots) → ((j : ℕ) → HasSlot gone j → HasSlot more j) → IsAway aim gone → IsAway aim more
+away_more : (aim : EpochChange) (gone more : Slots) → ((j : ℕ) → HasSlot gone j → HasSlot more j) → IsAway aim gone → IsAway aim more
 away_more aim gone more within away = record {
   whys = λ j w out. away.whys j w (λ has. out (within j has));
   admits = λ j is. within j (away.admits j is);
@@ -90,7 +90,7 @@ away_more aim gone more within away = record {
 }
 
 -- of a member that says the same of other slots
-may_go_on : (aim : Aim) (j : ℕ) (m x : Membership) → x.array.geometry ≡ m.array.geometry
+may_go_on : (aim : EpochChange) (j : ℕ) (m x : Membership) → x.array.geometry ≡ m.array.geometry
     → ((i : ℕ) → i < m.array.geometry.n → i ≢ j → IsUp (why_of m i) → IsUp (why_of x i)) → MayBegin aim m → ((w : Why) → aimed aim j w ≡ w)
     → MayBegin aim x
 may_go_on aims.Fence j m x geometry up may apart = tt
@@ -103,7 +103,7 @@ may_go_on (aims.Promote slot) j m x geometry up may apart = (
 )
 may_go_on (aims.Stamp frozen label) j m x geometry up may apart = tt
 
-module _ (aim0 aim : Aim) (m0 m last : Membership) (gone more : Slots) (j : ℕ) (old now new : Telling) (a : Attempt aim0 aim m0 m gone old now)
+module _ (aim0 aim : EpochChange) (m0 m last : Membership) (gone more : Slots) (j : ℕ) (old now new : RackState) (a : Attempt aim0 aim m0 m gone old now)
     (round : Round aim m last (Some j) now new) (same : now.honest ≡ new.honest) (formed : IsSlotSet more)
     (members : (i : ℕ) → HasSlot more i ↔ (HasSlot gone i ⊎ (i ≡ j))) (sizes : IsMembership last) (rules : IsMembership (without last j)) where
   moves_now : Moved aim m last (Some j) now new
@@ -164,18 +164,18 @@ module _ (aim0 aim : Aim) (m0 m last : Membership) (gone more : Slots) (j : ℕ)
         | inl as_first ↦
             elim (left_which aim j) [
               | inl on ↦ inl (on.0 ∙ as_first)
-              | inr off ↦ inr (off.0, subst (λ (x : Aim). IsAway x more) as_first (off.1 more has_it))
+              | inr off ↦ inr (off.0, subst (λ (x : EpochChange). IsAway x more) as_first (off.1 more has_it))
             ]
         | inr away ↦
-            inr (ap (λ (x : Aim). left_after x j) away.0, away_more aim0 gone more into away.1)
+            inr (ap (λ (x : EpochChange). left_after x j) away.0, away_more aim0 gone more into away.1)
       ]
 
   apart_now : (i : ℕ) (w : Why) → HasSlot more i → aimed (left_after aim j) i w ≡ w
   apart_now i w has =
       elim (left_which aim j) [
-        | inr off ↦ ap (λ (x : Aim). aimed x i w) off.0
+        | inr off ↦ ap (λ (x : EpochChange). aimed x i w) off.0
         | inl on ↦
-            ap (λ (x : Aim). aimed x i w) on.0 ∙ elim ((members i).0 has) [
+            ap (λ (x : EpochChange). aimed x i w) on.0 ∙ elim ((members i).0 has) [
               | inl had ↦ a.apart i w had
               | inr at ↦ ap (λ (k : ℕ). aimed aim k w) at ∙ on.1 w
             ]
@@ -192,9 +192,9 @@ module _ (aim0 aim : Aim) (m0 m last : Membership) (gone more : Slots) (j : ℕ)
   may_now : MayBegin (left_after aim j) (without last j)
   may_now =
       elim (left_which aim j) [
-        | inr off ↦ subst (λ (x : Aim). MayBegin x (without last j)) (sym off.0) tt
+        | inr off ↦ subst (λ (x : EpochChange). MayBegin x (without last j)) (sym off.0) tt
         | inl on ↦
-            subst (λ (x : Aim). MayBegin x (without last j)) (sym on.0)
+            subst (λ (x : EpochChange). MayBegin x (without last j)) (sym on.0)
             (may_go_on aim j m (without last j) moves_now.geometry up_now a.may on.1)
       ]
 
@@ -215,7 +215,7 @@ module _ (aim0 aim : Aim) (m0 m last : Membership) (gone more : Slots) (j : ℕ)
                         let rebuilt : why.Rebuilding ≡ why.Here =
                         sym (admits_up aim i (why_of m i) (ap admitted as_first ∙ is)) ∙ sym now_is ∙ here_last in
                         absurd (cc)
-                    | inr away ↦ a.down i is (sym (ap (λ (x : Aim). aimed x i (why_of m i)) away.0) ∙ sym now_is ∙ here_last)
+                    | inr away ↦ a.down i is (sym (ap (λ (x : EpochChange). aimed x i (why_of m i)) away.0) ∙ sym now_is ∙ here_last)
                   ]
             ]
       ]

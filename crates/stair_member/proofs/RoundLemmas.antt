@@ -22,7 +22,7 @@ use Rattle.stair_member.specs.Epochs.{ASync, AWrite, HasGot, IsDropped, IsGoneOf
 use Rattle.stair_member.specs.Aims.{admitted}
 use Rattle.stair_member.specs.HandSteps.{HasPlaces, IsGiven, IsSpreading, PlacesBelow, Spread, SpreadBelow, is_twice}
 use Rattle.stair_member.specs.Membership.{Membership, IsHere, IsMembership, IsMissing, place_of, why_of}
-use Rattle.stair_member.specs.declared.aim.Aim.{Aim}
+use Rattle.stair_member.specs.declared.aim.EpochChange.{EpochChange}
 use Rattle.stair_member.specs.declared.why.Why.{Why}
 use Rattle.stair_member.specs.declared.why.Why.TheVariants as why
 use Rattle.stair_member.proofs.ChangeLemmas.{up_here}
@@ -133,7 +133,7 @@ pub twice_at : (joining : Option ℕ) (j : ℕ) → joining ≡ Some j → is_tw
 twice_at None j is = absurd (cc)
 twice_at (Some slot) j is = let same : slot ≡ j = cc in eq-eqb slot j same
 
-module _ (slots : Slots) (m0 m mid begun : Membership) (aim : Aim) (twice : Option ℕ) (editions : List Edition) (old h0 h : List Happening)
+module _ (slots : Slots) (m0 m mid begun : Membership) (aim : EpochChange) (twice : Option ℕ) (editions : List Edition) (old h0 h : List Happening)
     (far : SoFar slots m0 mid twice editions old h) (rules0 : IsMembership m0) (rules : IsMembership m) (live : Slots)
     (lives : (j : ℕ) → HasSlot live j ↔ IsLiveSlot m j) (few : AtMost m.array.geometry.m (IsMissing m)) (room : m.drawn < 2 ^ 64 - 1)
     (places : PlacesBelow (with_draw m) mid live None 32) (spread : SpreadBelow (with_draw m) live None 32 h0 h) (sooner : Ran (IsIssuing slots editions) old h0)
@@ -372,7 +372,7 @@ module _ (slots : Slots) (m0 m : Membership) (twice : Option ℕ) (gone : ℕ �
         absurd (omega (arith, known, array, drawn, epoch));
   }
 
-  module _ (aim : Aim) (mid begun last : Membership) (between new : List Happening) (which : Option ℕ) (here : Slots)
+  module _ (aim : EpochChange) (mid begun last : Membership) (between new : List Happening) (which : Option ℕ) (here : Slots)
       (few : AtMost m.array.geometry.m (IsMissing m)) (spread : Spread (with_draw m) mid live None None h between)
       (places : PlacesBelow (with_draw m) mid live None 32) (begins : Begins aim mid begun) (begun_rules : IsMembership begun)
       (heres : (j : ℕ) → HasSlot here j ↔ IsHere begun j) (here_within : (j : ℕ) → IsHere begun j → HasSlot slots j)

@@ -22,11 +22,11 @@ use Rattle.stair_member.specs.Findings.{Findings, IsPlaceFound}
 use Rattle.stair_member.specs.JudgeSteps.{AreSights, IsNewest, IsSight, newest_at}
 use Rattle.stair_member.specs.Superblocks.{HoldsThis, IsSuperOf, First, Second}
 use Rattle.stair_member.specs.Survey.{IsNextPlace, IsPlaceOf, InFirst, InSecond}
-use Rattle.stair_rack.specs.Telling.{IsFoundGone, IsLater, IsReading, Telling}
+use Rattle.stair_rack.specs.RackState.{IsFoundGone, IsLater, IsReading, RackState}
 use Rattle.stair_member.specs.declared.surveying.Sights.{Sights}
 use Rattle.stair_member.proofs.DecisionLemmas.{none_held}
 use Rattle.stair_member.proofs.SuperLemmas.{holds_once, one_super, super_held}
-use Rattle.stair_rack.proofs.TellingLemmas.{gone_wider, later_join, later_none, reading_wider}
+use Rattle.stair_rack.proofs.RackStateLemmas.{gone_wider, later_join, later_none, reading_wider}
 
 -- BOTH PLACES
 
@@ -100,7 +100,7 @@ module _ (cell : ℕ → Cell) where
 
 -- ALL SLOTS
 
-pub place_found_mapped : (gone gone' : Type 0) (j k : ℕ) (mid new old later : Telling) (cell : Cell) → (gone → gone')
+pub place_found_mapped : (gone gone' : Type 0) (j k : ℕ) (mid new old later : RackState) (cell : Cell) → (gone → gone')
     → (IsReading j k mid new cell → IsReading j k old later cell) → IsPlaceFound gone j k mid new cell → IsPlaceFound gone' j k old later cell
 place_found_mapped gone gone' j k mid new old later cell on wider (IsPlaceFound.Read reading) = IsPlaceFound.Read (wider reading)
 place_found_mapped gone gone' j k mid new old later cell on wider (IsPlaceFound.Unread is lost) = IsPlaceFound.Unread (on is) lost
@@ -123,7 +123,7 @@ finds_wider before after within = record {
 }
 
 -- what bears a sight out does so in each longer stretch
-sight_wider : (old mid new later : Telling) → IsLater old mid → mid.honest ≡ new.honest → NoneFalls mid.bads new.bads mid.gones new.gones
+sight_wider : (old mid new later : RackState) → IsLater old mid → mid.honest ≡ new.honest → NoneFalls mid.bads new.bads mid.gones new.gones
     → IsLater new later
     → (j : ℕ) (block : Option Superblock) (next : ℕ) (lost : Bool) → IsSight j mid new block next lost → IsSight j old later block next lost
 sight_wider old mid new later first same within second j block next lost sight = record {
@@ -141,7 +141,7 @@ sight_wider old mid new later first same within second j block next lost sight =
 }
 
 -- The slots below i were looked at, and this is kept of them.
-pub record AreSightsBelow (i : ℕ) (newest : List (Option Superblock)) (next : List ℕ) (gone : Slots) (old now : Telling)
+pub record AreSightsBelow (i : ℕ) (newest : List (Option Superblock)) (next : List ℕ) (gone : Slots) (old now : RackState)
     (count count' : Option ℕ) : Type 0 where
   pub each : (j : ℕ) → j < i → IsSight j old now (newest_at newest j) (slice_index next j) (has_slot gone j)
   pub formed : IsSlotSet gone
@@ -153,7 +153,7 @@ pub record AreSightsBelow (i : ℕ) (newest : List (Option Superblock)) (next : 
   pub size : length newest ≡ 32
   pub size' : length next ≡ 32
 
-pub sights_none : (newest : List (Option Superblock)) (next : List ℕ) (gone : Slots) (now : Telling) (count : Option ℕ) → IsSlotSet gone
+pub sights_none : (newest : List (Option Superblock)) (next : List ℕ) (gone : Slots) (now : RackState) (count : Option ℕ) → IsSlotSet gone
     → ((j : ℕ) → ¬ HasSlot gone j) → length newest ≡ 32 → length next ≡ 32 → AreSightsBelow 0 newest next gone now now count count
 sights_none newest next gone now count formed none size size' = record {
   each = λ j below. absurd (omega arith);
@@ -180,7 +180,7 @@ added_none i gone lost is j =
     (λ has. inl has, λ either. elim either [ inl had ↦ had | inr same ↦ absurd (false≢true (sym is ∙ same.1)) ])
 
 -- the next slot is looked at
-module _ (i : ℕ) (newest : List (Option Superblock)) (next : List ℕ) (gone gone' : Slots) (old now new : Telling) (count count' count'' : Option ℕ)
+module _ (i : ℕ) (newest : List (Option Superblock)) (next : List ℕ) (gone gone' : Slots) (old now new : RackState) (count count' count'' : Option ℕ)
     (before : AreSightsBelow i newest next gone old now count count') (block : Option Superblock) (place : ℕ) (lost : Bool)
     (sight : IsSight i now new block place lost) (later : IsLater now new) (began : IsTrue new.honest → IsHistory now.history)
     (asked : IsTrue new.honest → AsksSlot i now.history new.history) (reads : RisesAtMost 2 count' count'') (formed : IsSlotSet gone')
@@ -268,7 +268,7 @@ image_of : (ℕ → ℕ → Cell) → Image
 image_of cells j = record { size = None; cell = cells j; removed = [] }
 
 -- a sight, but for its cells
-record IsSightOf (j : ℕ) (old new : Telling) (block : Option Superblock) (place : ℕ) (lost : Bool) (cells : ℕ → Cell) : Type 0 where
+record IsSightOf (j : ℕ) (old new : RackState) (block : Option Superblock) (place : ℕ) (lost : Bool) (cells : ℕ → Cell) : Type 0 where
   places : (k : ℕ) → k < 2 → IsPlaceFound (IsTrue lost) j k old new (cells k)
   finds : IsTrue new.honest → FindsWithin (IsTrue lost) j cells old.history new.history
   newest : IsNewest cells block
@@ -276,12 +276,12 @@ record IsSightOf (j : ℕ) (old new : Telling) (block : Option Superblock) (plac
   gone : IsTrue lost → IsFoundGone j old new
   held : IsTrue new.honest → ¬ IsTrue lost → (before : List Happening) → Ran any_call before old.history → IsHeld before new.history j
 
-sight_of_cells : (j : ℕ) (old new : Telling) (block : Option Superblock) (place : ℕ) (lost : Bool) → IsSight j old new block place lost
+sight_of_cells : (j : ℕ) (old new : RackState) (block : Option Superblock) (place : ℕ) (lost : Bool) → IsSight j old new block place lost
     → (cells : ℕ → Cell) × IsSightOf j old new block place lost cells
 sight_of_cells j old new block place lost s =
     (s.cell, record { places = s.places; finds = s.finds; newest = s.newest; next = s.next; gone = s.gone; held = s.held })
 
-pub sights_all : (sights : Sights) (old now : Telling) (count count' : Option ℕ)
+pub sights_all : (sights : Sights) (old now : RackState) (count count' : Option ℕ)
     → AreSightsBelow 32 sights.newest sights.next sights.gone old now count count'
     → AreSights sights old now
 unfolding image_of

@@ -24,7 +24,7 @@ use Rattle.stair_member.specs.Fencing.{HasStood, IsFencing, IsNamedBy}
 use Rattle.stair_member.specs.Membership.{Membership, IsHere, IsMembership, IsMissing, place_of, why_of}
 use Rattle.stair_member.specs.Reserve.{Bears}
 use Rattle.stair_member.specs.Superblocks.{HoldsSuper, Counts}
-use Rattle.stair_member.specs.declared.aim.Aim.{Aim}
+use Rattle.stair_member.specs.declared.aim.EpochChange.{EpochChange}
 use Rattle.stair_member.specs.declared.why.Why.{Why}
 use Rattle.stair_member.specs.declared.why.Why.TheVariants.{Here, Gone, NoSuper, OtherArray, OtherSlot, MarkedDown, OtherJoined, Rebuilding}
 use Rattle.stair_member.proofs.CountingLemmas.{common}
@@ -87,7 +87,7 @@ formed_here m last j is stands below here =
       };
     }
 
-module _ (aim : Aim) (gone : Slots) (m last : Membership) (old new : List Happening) (f : IsFencing aim gone m last old new new) (is : IsMembership last)
+module _ (aim : EpochChange) (gone : Slots) (m last : Membership) (old new : List Happening) (f : IsFencing aim gone m last old new new) (is : IsMembership last)
     (stands : Stands m last) (image : Image) (left : CrashMayLeave new image) (r : AreReserved (admitted aim) f.issued.slots f.issued.editions m old new) where
   end : IsMoment old new new
   end = moment_last f.issued.ran.more f.issued.ran.is
@@ -225,7 +225,7 @@ module _ (aim : Aim) (gone : Slots) (m last : Membership) (old new : List Happen
           let below : j < m.array.geometry.n = subst (λ (x : Geometry). j < x.n) stands.geometry of.below in
           live_here (why_of last j) (sym (stands.marks j below) ∙ ap (λ (c : Configuration). mark_in c j) (sym array) ∙ of.marked)
 
-pub stands : {offline : ℕ → Type 0} (aim : Aim) (gone : Slots) (m last : Membership) (old new : List Happening) (image : Image)
+pub stands : {offline : ℕ → Type 0} (aim : EpochChange) (gone : Slots) (m last : Membership) (old new : List Happening) (image : Image)
     (current : Superblock) → HasStood aim gone m last old new → CrashMayLeave new image → IsCurrent m.array.geometry image current
     → AtMost m.array.geometry.m (IsFailed offline m.array.geometry image current) → IsNamedBy last image current
 stands {offline} aim gone m last old new image current st left =

@@ -9,8 +9,8 @@ use Rattle.stair_member.specs.Aims.{IsAimed, admitted, aimed, frozen_then, label
 use Rattle.stair_member.specs.Establishing.{Did, HasBegun, NotYet}
 use Rattle.stair_member.specs.HandSteps.{is_twice}
 use Rattle.stair_member.specs.Membership.{Membership, IsHere, why_of}
-use Rattle.stair_member.specs.declared.aim.Aim.{Aim}
-use Rattle.stair_member.specs.declared.aim.Aim.TheVariants as aims
+use Rattle.stair_member.specs.declared.aim.EpochChange.{EpochChange}
+use Rattle.stair_member.specs.declared.aim.EpochChange.TheVariants as aims
 use Rattle.stair_member.specs.declared.why.Why.{Why}
 use Rattle.stair_member.specs.declared.why.Why.TheVariants as why
 use Rattle.stair_member.proofs.ChangeLemmas.{IsUp}
@@ -55,13 +55,13 @@ or_from true b is = refl
 or_from false b (inl is) = absurd (false≢true is)
 or_from false b (inr is) = is
 
-taking_test : Aim → Membership → ℕ → Bool
+taking_test : EpochChange → Membership → ℕ → Bool
 taking_test aim m j = nat_lt j m.array.geometry.n && (is_up (why_of m j) || is_twice (admitted aim) j)
 
-pub taking : Aim → Membership → Slots
+pub taking : EpochChange → Membership → Slots
 taking aim m = slots_by (taking_test aim m)
 
-pub taking_only : (aim : Aim) (m : Membership) (j : ℕ) → HasSlot (taking aim m) j
+pub taking_only : (aim : EpochChange) (m : Membership) (j : ℕ) → HasSlot (taking aim m) j
     → IsHere m j ⊎ ((admitted aim ≡ Some j) × (j < m.array.geometry.n))
 unfolding taking taking_test
 taking_only aim m j has =
@@ -73,7 +73,7 @@ taking_only aim m j has =
       | inr twice ↦ inr (twice_is (admitted aim) j twice, below)
     ]
 
-pub taking_all : (aim : Aim) (m : Membership) (j : ℕ) → m.array.geometry.n ≤ 32 → j < m.array.geometry.n → IsUp (why_of m j) ⊎ (admitted aim ≡ Some j)
+pub taking_all : (aim : EpochChange) (m : Membership) (j : ℕ) → m.array.geometry.n ≤ 32 → j < m.array.geometry.n → IsUp (why_of m j) ⊎ (admitted aim ≡ Some j)
     → HasSlot (taking aim m) j
 unfolding taking taking_test
 taking_all aim m j most below which =
@@ -84,7 +84,7 @@ taking_all aim m j most below which =
 -- ---- an aim whose slot was gone
 
 -- without the slots that were gone nothing else is aimed at
-pub record IsAway (aim : Aim) (gone : Slots) : Type 0 where
+pub record IsAway (aim : EpochChange) (gone : Slots) : Type 0 where
   pub whys : (j : ℕ) (w : Why) → ¬ HasSlot gone j → aimed aim j w ≡ w
   pub admits : (j : ℕ) → admitted aim ≡ Some j → HasSlot gone j
   pub frozen : (a : Configuration) → frozen_then aim a ≡ a.frozen
@@ -92,13 +92,13 @@ pub record IsAway (aim : Aim) (gone : Slots) : Type 0 where
 
 -- ---- the slot that is admitted
 
-pub admits_up : (aim : Aim) (j : ℕ) (w : Why) → admitted aim ≡ Some j → aimed aim j w ≡ why.Rebuilding
+pub admits_up : (aim : EpochChange) (j : ℕ) (w : Why) → admitted aim ≡ Some j → aimed aim j w ≡ why.Rebuilding
 admits_up aims.Fence j w is = absurd (cc)
 admits_up (aims.Admit slot) j w is = let same : slot ≡ j = cc in cond-true _ _ _ (eq-eqb j slot (sym same))
 admits_up (aims.Promote slot) j w is = absurd (cc)
 admits_up (aims.Stamp frozen label) j w is = absurd (cc)
 
-pub admits_below : (aim : Aim) (m : Membership) (j : ℕ) → MayBegin aim m → admitted aim ≡ Some j → j < m.array.geometry.n
+pub admits_below : (aim : EpochChange) (m : Membership) (j : ℕ) → MayBegin aim m → admitted aim ≡ Some j → j < m.array.geometry.n
 admits_below aims.Fence m j may is = absurd (cc)
 admits_below (aims.Admit slot) m j may is = let same : slot ≡ j = cc in subst (λ (k : ℕ). k < m.array.geometry.n) same may
 admits_below (aims.Promote slot) m j may is = absurd (cc)
@@ -107,10 +107,10 @@ admits_below (aims.Stamp frozen label) m j may is = absurd (cc)
 -- ---- how far it has come
 
 -- an epoch names what it did at first, or what was begun for the aim
-abbrev pub IsNamedFor : Aim → Slots → Membership → Configuration → Type 0
+abbrev pub IsNamedFor : EpochChange → Slots → Membership → Configuration → Type 0
 IsNamedFor aim gone m c = (c ≡ m.array) ⊎ ((m.drawn < c.epoch) × IsAimed aim (HasSlot gone) m c)
 
-aimed_wider : (aim : Aim) (gone more : Slots) (m : Membership) (c : Configuration) → ((i : ℕ) → HasSlot gone i → HasSlot more i)
+aimed_wider : (aim : EpochChange) (gone more : Slots) (m : Membership) (c : Configuration) → ((i : ℕ) → HasSlot gone i → HasSlot more i)
     → IsAimed aim (HasSlot gone) m c → IsAimed aim (HasSlot more) m c
 aimed_wider aim gone more m c into is = record {
   geometry = is.geometry;
@@ -121,13 +121,13 @@ aimed_wider aim gone more m c into is = record {
   joins = is.joins;
 }
 
-pub named_wider : (aim : Aim) (gone more : Slots) (m : Membership) (c : Configuration) → ((i : ℕ) → HasSlot gone i → HasSlot more i)
+pub named_wider : (aim : EpochChange) (gone more : Slots) (m : Membership) (c : Configuration) → ((i : ℕ) → HasSlot gone i → HasSlot more i)
     → IsNamedFor aim gone m c → IsNamedFor aim more m c
 named_wider aim gone more m c into (inl same) = inl same
 named_wider aim gone more m c into (inr is) = inr (is.0, aimed_wider aim gone more m c into is.1)
 
 -- of a member that says the same of the slots that weren't gone
-pub began_wider : (aim : Aim) (gone more : Slots) (m0 m x : Membership) → ((i : ℕ) → HasSlot gone i → HasSlot more i) → x.array ≡ m.array
+pub began_wider : (aim : EpochChange) (gone more : Slots) (m0 m x : Membership) → ((i : ℕ) → HasSlot gone i → HasSlot more i) → x.array ≡ m.array
     → ((i : ℕ) → ¬ HasSlot more i → why_of x i ≡ why_of m i) → HasBegun aim gone m0 m → HasBegun aim more m0 x
 began_wider aim gone more m0 m x into array whys (NotYet same are) =
     NotYet (array ∙ same) (λ j below out. whys j out ∙ are j below (λ has. out (into j has)))
@@ -136,6 +136,6 @@ began_wider aim gone more m0 m x into array whys (Did above is are) =
     (subst (λ (c : Configuration). IsAimed aim (HasSlot more) m0 c) (sym array) (aimed_wider aim gone more m0 m.array into is))
     (λ j below out. whys j out ∙ are j below (λ has. out (into j has)))
 
-pub named_of : (aim : Aim) (gone : Slots) (m0 m : Membership) → HasBegun aim gone m0 m → IsNamedFor aim gone m0 m.array
+pub named_of : (aim : EpochChange) (gone : Slots) (m0 m : Membership) → HasBegun aim gone m0 m → IsNamedFor aim gone m0 m.array
 named_of aim gone m0 m (NotYet same are) = inl same
 named_of aim gone m0 m (Did above is are) = inr (above, is)

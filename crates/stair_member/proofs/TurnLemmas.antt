@@ -27,7 +27,7 @@ use Rattle.stair_member.specs.Epochs.{AsWas, Given, IsIssuing, IsStanding}
 use Rattle.stair_member.specs.Fencing.{IsFencing}
 use Rattle.stair_member.specs.Membership.{IsHere, Membership, place_of}
 use Rattle.stair_member.specs.Superblocks.{HoldsSuper}
-use Rattle.stair_member.specs.declared.aim.Aim.{Aim}
+use Rattle.stair_member.specs.declared.aim.EpochChange.{EpochChange}
 use Rattle.stair_member.proofs.EditionLemmas.{Bare, Comes, Cut, Harmed, Same, Stayed, Wrote, holds_copy, issuing_places, none_held_there, slot_is}
 use Rattle.stair_member.proofs.SuperLemmas.{holds_once}
 
@@ -40,7 +40,7 @@ after_each : (P : List Happening → Type 0) (more old : List Happening) → Thr
 after_each P [] old all = tt
 after_each P (e ∷ more) old all = (after_each P more old all.1, all.0)
 
-module _ (aim : Aim) (gone : Slots) (m last : Membership) (old h new : List Happening) (f : IsFencing aim gone m last old h new)
+module _ (aim : EpochChange) (gone : Slots) (m last : Membership) (old h new : List Happening) (f : IsFencing aim gone m last old h new)
     (j : ℕ) (here : IsHere m j) (has : HasSlot f.issued.slots j) (on : IsAttached old j) (some : IsSome (slot_state old j).size) where
   abbrev p : ℕ
   p = place_of m j

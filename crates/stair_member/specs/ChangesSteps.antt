@@ -7,8 +7,8 @@ use Rattle.stair_super.specs.declared.mark.Mark.TheVariants as mark
 use Rattle.stair_member.specs.Editions.{copy_of, edition_of}
 use Rattle.stair_member.specs.Aims.{aimed, frozen_then, label_then, mark_for}
 use Rattle.stair_member.specs.Membership.{Membership, place_of, why_of}
-use Rattle.stair_member.specs.declared.aim.Aim.{Aim}
-use Rattle.stair_member.specs.declared.aim.Aim.TheVariants.{Fence, Admit, Promote, Stamp}
+use Rattle.stair_member.specs.declared.aim.EpochChange.{EpochChange}
+use Rattle.stair_member.specs.declared.aim.EpochChange.TheVariants.{Fence, Admit, Promote, Stamp}
 use Rattle.stair_member.specs.declared.why.Why.{Why}
 use Rattle.stair_member.specs.declared.why.Why.TheVariants.{Here, Gone, Rebuilding}
 
@@ -31,19 +31,19 @@ abbrev pub turned : Membership → ℕ → Membership
 turned m j = record m { places = slice_set m.places j (1 - place_of m j) }
 
 -- the joined number of a slot with this mark, in this epoch
-abbrev pub joined_up : Aim → ℕ → ℕ → ℕ → ℕ
+abbrev pub joined_up : EpochChange → ℕ → ℕ → ℕ → ℕ
 joined_up (Admit slot) epoch j joined = if j == slot then epoch else joined
 joined_up (Promote slot) epoch j joined = joined
 joined_up Fence epoch j joined = joined
 joined_up (Stamp frozen label) epoch j joined = joined
 
-abbrev pub joined_then : Aim → ℕ → ℕ → Mark → ℕ → ℕ
+abbrev pub joined_then : EpochChange → ℕ → ℕ → Mark → ℕ → ℕ
 joined_then aim epoch j mark.Down joined = 0
 joined_then aim epoch j mark.Live joined = joined_up aim epoch j joined
 joined_then aim epoch j mark.Rebuilding joined = joined_up aim epoch j joined
 
 -- the slot of the aim is one of the array's; and one that is promoted is here
-abbrev pub MayBegin : Aim → Membership → Type 0
+abbrev pub MayBegin : EpochChange → Membership → Type 0
 MayBegin (Admit slot) m = slot < m.array.geometry.n
 MayBegin (Promote slot) m = (slot < m.array.geometry.n)
     × ((why_of m slot ≡ Here) ⊎ (why_of m slot ≡ Rebuilding))
@@ -51,7 +51,7 @@ MayBegin Fence m = ⊤
 MayBegin (Stamp frozen label) m = ⊤
 
 -- what an epoch names, where the slots have these reasons
-pub record Names (aim : Aim) (array : Configuration) (whys : List Why) (epoch : ℕ)
+pub record Names (aim : EpochChange) (array : Configuration) (whys : List Why) (epoch : ℕ)
     (named : Configuration) : Type 0 where
   pub geometry : named.geometry ≡ array.geometry
   pub epoch_is : named.epoch ≡ epoch
@@ -66,7 +66,7 @@ pub record Names (aim : Aim) (array : Configuration) (whys : List Why) (epoch : 
   pub joins_size : length named.joins ≡ 32
 
 -- the epoch of the last draw begins
-pub record Begins (aim : Aim) (m begun : Membership) : Type 0 where
+pub record Begins (aim : EpochChange) (m begun : Membership) : Type 0 where
   pub names : Names aim m.array begun.whys m.drawn begun.array
   pub drawn : begun.drawn ≡ m.drawn
   pub whys : (j : ℕ) → j < 32 → why_of begun j ≡ aimed aim j (why_of m j)

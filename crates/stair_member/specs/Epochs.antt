@@ -20,8 +20,8 @@ use Rattle.stair_member.specs.Aims.{IsAimed, admitted, mark_for}
 use Rattle.stair_member.specs.Counting.{AllBut, AtMost, MoreThan}
 use Rattle.stair_member.specs.Editions.{Edition, copy_of, edition_of}
 use Rattle.stair_member.specs.Membership.{Membership, IsHere, IsMissing, place_of, why_of}
-use Rattle.stair_rack.specs.Telling.{Telling}
-use Rattle.stair_member.specs.declared.aim.Aim.{Aim}
+use Rattle.stair_rack.specs.RackState.{RackState}
+use Rattle.stair_member.specs.declared.aim.EpochChange.{EpochChange}
 use Rattle.stair_member.specs.declared.fault.AdmitFault.{AdmitFault}
 use Rattle.stair_member.specs.declared.fault.AdmitFault.TheVariants as admit
 use Rattle.stair_member.specs.declared.fault.FenceFault.{FenceFault}
@@ -122,7 +122,7 @@ pub data IsStanding (m : Membership) (editions : List Edition) (old h : List Hap
 
 -- An edition of a call that began with the member m and ended with `last`: a new draw with what the epoch named then, or a new
 -- epoch, of which the last is the member's.
-pub record IsIssued (aim : Aim) (gone : ℕ → Type 0) (m last : Membership) (e : Edition)
+pub record IsIssued (aim : EpochChange) (gone : ℕ → Type 0) (m last : Membership) (e : Edition)
     : Type 0 where
   pub geometry : e.array.geometry ≡ m.array.geometry
   pub above : m.drawn < e.draw
@@ -138,7 +138,7 @@ IsPlaceSettled old h j k = ButForOutside old h j k (λ s. s.since ≡ [])
 
 -- What a call wrote that began with the member m and ended with `last`, Ok or refused, for this, where the slots in `gone`
 -- were gone to it.
-pub record Issued (aim : Aim) (gone : Slots) (m last : Membership) (old new : List Happening)
+pub record Issued (aim : EpochChange) (gone : Slots) (m last : Membership) (old new : List Happening)
     : Type 0 where
   pub slots : Slots
   pub taking : (j : ℕ) → HasSlot slots j → IsTaken (admitted aim) m j
@@ -184,7 +184,7 @@ IsGoneOf gone j call = IsGoneCall call → gone j
 
 -- These slots answered gone in the call, and a held one whose medium has both places is offline until it is attached. On an
 -- honest rack all that answered so are among them.
-pub record WereGone (gone : Slots) (m last : Membership) (old new : Telling) : Type 0 where
+pub record WereGone (gone : Slots) (m last : Membership) (old new : RackState) : Type 0 where
   pub formed : IsSlotSet gone
   pub below : (j : ℕ) → HasSlot gone j → j < m.array.geometry.n
   pub rose : (j : ℕ) → HasSlot gone j → Rose (old.gones j) (new.gones j)

@@ -8,9 +8,9 @@ use Rattle.stair_member.specs.Aims.{IsAimed, admitted, aimed}
 use Rattle.stair_member.specs.Editions.{edition_of}
 use Rattle.stair_member.specs.Epochs.{IsRefusedBy, IsTaken, Issued, Stands, StandsOnDisk, WereGone}
 use Rattle.stair_member.specs.Membership.{Membership, IsHere, IsMembership, why_of}
-use Rattle.stair_rack.specs.Telling.{Telling}
-use Rattle.stair_member.specs.declared.aim.Aim.{Aim}
-use Rattle.stair_member.specs.declared.aim.Aim.TheVariants.{Fence, Stamp}
+use Rattle.stair_rack.specs.RackState.{RackState}
+use Rattle.stair_member.specs.declared.aim.EpochChange.{EpochChange}
+use Rattle.stair_member.specs.declared.aim.EpochChange.TheVariants.{Fence, Stamp}
 use Rattle.stair_member.specs.declared.fault.AdmitFault.{AdmitFault}
 use Rattle.stair_member.specs.declared.fault.AdmitFault.TheVariants as admit
 use Rattle.stair_member.specs.declared.fault.FenceFault.{FenceFault}
@@ -18,12 +18,12 @@ use Rattle.stair_member.specs.declared.fault.FenceFault.TheVariants as fence
 use Rattle.stair_member.specs.declared.why.Why.TheVariants.{Gone}
 
 -- the reasons are as the epoch is for, but of the slots that were gone
-abbrev pub AreAimed : Aim → Slots → Membership → Membership → Type 0
+abbrev pub AreAimed : EpochChange → Slots → Membership → Membership → Type 0
 AreAimed aim gone m last = (j : ℕ) → j < m.array.geometry.n → ¬ HasSlot gone j
     → why_of last j ≡ aimed aim j (why_of m j)
 
 -- The epoch stands: it is for this, and the slots in `gone` were dropped meanwhile, each of which cost a draw.
-pub record IsEstablished (aim : Aim) (m last : Membership) (gone : Slots) : Type 0 where
+pub record IsEstablished (aim : EpochChange) (m last : Membership) (gone : Slots) : Type 0 where
   pub stands : Stands m last
   pub drawn : last.drawn ≡ m.drawn + slot_count gone + 1
   pub whys : AreAimed aim gone m last
@@ -31,7 +31,7 @@ pub record IsEstablished (aim : Aim) (m last : Membership) (gone : Slots) : Type
 
 -- What the member says after a refusal: what it said at first, but that slots were gone; or what a new epoch names that was
 -- begun.
-pub data HasBegun (aim : Aim) (gone : Slots) (m last : Membership) : Type 0 where
+pub data HasBegun (aim : EpochChange) (gone : Slots) (m last : Membership) : Type 0 where
   NotYet : last.array ≡ m.array
       → ((j : ℕ) → j < m.array.geometry.n → ¬ HasSlot gone j → why_of last j ≡ why_of m j)
       → HasBegun aim gone m last
@@ -44,8 +44,8 @@ pub record FellFor (m last : Membership) (gone : Slots) : Type 0 where
       → mark_in m.array j ≢ mark.Down → (¬ IsHere m j) ⊎ HasSlot gone j
 
 -- An epoch was established, or refused for this, by a member that was m and is `last`.
-pub record Establishes (aim : Aim) (m last : Membership) (refusal : Option FenceFault)
-    (old new : Telling) : Type 0 where
+pub record Establishes (aim : EpochChange) (m last : Membership) (refusal : Option FenceFault)
+    (old new : RackState) : Type 0 where
   pub gone : Slots
   -- on any rack
   pub honest : old.honest ≡ new.honest
@@ -95,7 +95,7 @@ IsFallenIfOk m last (Err fault) = Unit {0}
 
 -- what `fence` does
 pub record Fences (leaving : Slots) (m last : Membership) (answer : Result Slots FenceFault)
-    (old new : Telling) : Type 0 where
+    (old new : RackState) : Type 0 where
   pub start : Membership
   pub leaves : Leaves leaving m start
   pub establishes : Establishes Fence start last (refusal_of answer) old new
@@ -103,7 +103,7 @@ pub record Fences (leaving : Slots) (m last : Membership) (answer : Result Slots
 
 -- what `stamp` does
 pub record Stamps (frozen : Bool) (label : List ℕ) (m last : Membership)
-    (answer : Result Slots FenceFault) (old new : Telling) : Type 0 where
+    (answer : Result Slots FenceFault) (old new : RackState) : Type 0 where
   pub establishes : Establishes (Stamp frozen label) m last (refusal_of answer) old new
   pub fallen : IsFallenIfOk m last answer
 
@@ -121,8 +121,8 @@ IsGoneIfToldSo slot gone (Err (admit.Gone told)) = (told ≡ slot) × HasSlot go
 IsGoneIfToldSo slot gone (Err fault) = Unit {0}
 
 -- what `admit` and `promote` do
-pub record Joins (aim : Aim) (slot : ℕ) (m last : Membership)
-    (answer : Result Slots AdmitFault) (old new : Telling) : Type 0 where
+pub record Joins (aim : EpochChange) (slot : ℕ) (m last : Membership)
+    (answer : Result Slots AdmitFault) (old new : RackState) : Type 0 where
   pub establishes : Establishes aim m last (refusal_in answer) old new
   pub told : IsGoneIfToldSo slot establishes.gone answer
   pub fallen : IsFallenIfOk m last answer

@@ -21,8 +21,8 @@ use Rattle.stair_member.specs.Establishing.{IsEstablished}
 use Rattle.stair_member.specs.Membership.{Membership, IsHere, IsMembership, place_of, why_of}
 use Rattle.stair_member.specs.Reserve.{Bears, HasReached, IsOrderly}
 use Rattle.stair_member.specs.Superblocks.{Counts, HoldsSuper}
-use Rattle.stair_member.specs.declared.aim.Aim.{Aim}
-use Rattle.stair_member.specs.declared.aim.Aim.TheVariants.{Promote}
+use Rattle.stair_member.specs.declared.aim.EpochChange.{EpochChange}
+use Rattle.stair_member.specs.declared.aim.EpochChange.TheVariants.{Promote}
 use Rattle.stair_member.specs.declared.why.Why.TheVariants.{Gone, Here}
 
 -- a crash may leave slot j with a medium that bears this superblock
@@ -96,7 +96,7 @@ pub record IsNamedBy (last : Membership) (image : Image) (current : Superblock) 
   pub live : (j : ℕ) → IsLive last.array.geometry image current j → why_of last j ≡ Here
 
 -- A moment h of a call that began with the member m and ended with `last`, up to which no removed medium came back.
-pub record IsFencing (aim : Aim) (gone : Slots) (m last : Membership)
+pub record IsFencing (aim : EpochChange) (gone : Slots) (m last : Membership)
     (old h new : List Happening) : Type 0 where
   pub begun : IsBegun (admitted aim) m old
   pub moment : IsMoment old h new
@@ -104,7 +104,7 @@ pub record IsFencing (aim : Aim) (gone : Slots) (m last : Membership)
   pub returned : NothingReturned old h
 
 -- An epoch stands at the end of a call.
-pub record HasStood (aim : Aim) (gone : Slots) (m last : Membership) (old new : List Happening)
+pub record HasStood (aim : EpochChange) (gone : Slots) (m last : Membership) (old new : List Happening)
     : Type 0 where
   pub fencing : IsFencing aim gone m last old new new
   pub member : IsMembership last

@@ -13,7 +13,7 @@ use Rattle.stair_member.specs.Asked.{FindsWithin}
 use Rattle.stair_member.specs.Findings.{Findings, AreFound, IsPlaceFound}
 use Rattle.stair_member.specs.Superblocks.{HasSuper, IsSuperOf, Counts, CountsFor, Identifies}
 use Rattle.stair_member.specs.Survey.{IsNextPlace, IsLowestOf}
-use Rattle.stair_rack.specs.Telling.{Telling, IsFoundGone}
+use Rattle.stair_rack.specs.RackState.{RackState, IsFoundGone}
 use Rattle.stair_member.specs.declared.surveying.Sights.{Sights}
 use Rattle.stair_member.specs.declared.why.Why.{Why}
 use Rattle.stair_member.specs.declared.why.Why.TheVariants.{Here, Gone, NoSuper, OtherArray, OtherSlot, MarkedDown, OtherJoined, Rebuilding}
@@ -26,7 +26,7 @@ IsNewest cell None = ¬ HasSuper cell
 IsNewest cell (Some s) = IsSuperOf cell s
 
 -- what slot j was found to hold
-pub record IsSight (j : ℕ) (old new : Telling) (block : Option Superblock) (place : ℕ)
+pub record IsSight (j : ℕ) (old new : RackState) (block : Option Superblock) (place : ℕ)
     (lost : Bool) : Type 0 where
   pub cell : ℕ → Cell
   pub places : (k : ℕ) → k < 2 → IsPlaceFound (IsTrue lost) j k old new (cell k)
@@ -54,7 +54,7 @@ pub record Tells (sights : Sights) (f : Findings) : Type 0 where
   pub size : length sights.next ≡ 32
 
 -- all slots were looked at
-pub record AreSights (sights : Sights) (old new : Telling) : Type 0 where
+pub record AreSights (sights : Sights) (old new : RackState) : Type 0 where
   pub findings : Findings
   pub found : AreFound findings old new
   pub tells : Tells sights findings

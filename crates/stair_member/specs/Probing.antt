@@ -5,7 +5,7 @@ use Rattle.stair_rack.specs.Answers.{Calls, IsHistory, is_ready}
 use Rattle.stair_rack.specs.Count.{Rose}
 use Rattle.stair_rack.specs.History.{Read}
 use Rattle.stair_rack.specs.Sector.{Cell}
-use Rattle.stair_rack.specs.Telling.{IsLater, Telling}
+use Rattle.stair_rack.specs.RackState.{IsLater, RackState}
 use Rattle.stair_rack.specs.declared.rack.Got.{Got}
 use Rattle.stair_rack.specs.declared.rack.Got.TheVariants as got
 use Rattle.stair_super.specs.Superblock.{Superblock}
@@ -24,12 +24,12 @@ block_in probe.Nothing = None
 block_in probe.Gone = None
 
 -- the slot was gone to a read, and isn't in use
-pub record WasGoneToRead (j : ℕ) (old new : Telling) : Type 0 where
+pub record WasGoneToRead (j : ℕ) (old new : RackState) : Type 0 where
   pub gone : Rose (old.gones j) (new.gones j)
   pub unready : IsTrue new.honest → is_ready new.history j ≡ false
 
 -- Place k of slot j was read, once, and found to hold this.
-pub record ProbesPlace (j k : ℕ) (place : PlaceProbe) (old new : Telling) : Type 0 where
+pub record ProbesPlace (j k : ℕ) (place : PlaceProbe) (old new : RackState) : Type 0 where
   pub later : IsLater old new
   pub began : IsTrue new.honest → IsHistory old.history
   pub cell : Cell
@@ -52,7 +52,7 @@ abbrev pub HoldsNone : SlotProbe → Type 0
 HoldsNone slot = (slot.first ≡ probe.Nothing) × (slot.second ≡ probe.Nothing)
 
 -- The superblock places of slot j were read, the second one after the first.
-pub record ProbesSlot (j : ℕ) (slot : SlotProbe) (old new : Telling) : Type 0 where
-  pub between : Telling
+pub record ProbesSlot (j : ℕ) (slot : SlotProbe) (old new : RackState) : Type 0 where
+  pub between : RackState
   pub first : ProbesPlace j first_place slot.first old between
   pub second : ProbesPlace j second_place slot.second between new

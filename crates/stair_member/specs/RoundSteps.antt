@@ -10,13 +10,13 @@ use Rattle.stair_member.specs.Aims.{admitted}
 use Rattle.stair_member.specs.Establishing.{Establishes}
 use Rattle.stair_member.specs.HandSteps.{PlacesBelow, Spread}
 use Rattle.stair_member.specs.Membership.{Membership, IsHere, IsMembership, IsMissing}
-use Rattle.stair_rack.specs.Telling.{Telling}
-use Rattle.stair_member.specs.declared.aim.Aim.{Aim}
-use Rattle.stair_member.specs.declared.aim.Aim.TheVariants.{Fence, Admit, Promote, Stamp}
+use Rattle.stair_rack.specs.RackState.{RackState}
+use Rattle.stair_member.specs.declared.aim.EpochChange.{EpochChange}
+use Rattle.stair_member.specs.declared.aim.EpochChange.TheVariants.{Fence, Admit, Promote, Stamp}
 use Rattle.stair_member.specs.declared.fault.FenceFault.{FenceFault}
 
 -- each live slot got a superblock with the next draw, or those below one that was gone
-pub record DrewOut (m last : Membership) (gone : Option ℕ) (old new : Telling) : Type 0 where
+pub record DrewOut (m last : Membership) (gone : Option ℕ) (old new : RackState) : Type 0 where
   pub was : IsMembership m
   pub rules : IsMembership last
   pub few : AtMost m.array.geometry.m (IsMissing m)
@@ -29,7 +29,7 @@ pub record DrewOut (m last : Membership) (gone : Option ℕ) (old new : Telling)
   pub counts : NoneFalls old.bads new.bads old.gones new.gones
 
 -- nothing was done
-pub record IsRefused (m last : Membership) (fault : FenceFault) (old new : Telling)
+pub record IsRefused (m last : Membership) (fault : FenceFault) (old new : RackState)
     : Type 0 where
   pub was : IsMembership m
   pub member : last ≡ m
@@ -38,13 +38,13 @@ pub record IsRefused (m last : Membership) (fault : FenceFault) (old new : Telli
   pub gones : new.gones ≡ old.gones
   pub cause : IsRefusedBy m fault
 
-abbrev pub Draws : Membership → Membership → Result (Option ℕ) FenceFault → Telling → Telling
+abbrev pub Draws : Membership → Membership → Result (Option ℕ) FenceFault → RackState → RackState
     → Type 0
 Draws m last (Ok gone) old new = DrewOut m last gone old new
 Draws m last (Err fault) old new = IsRefused m last fault old new
 
 -- an epoch began, and each slot that is here got its superblock, or those below one that was gone
-pub record BeganOut (aim : Aim) (m last : Membership) (gone : Option ℕ) (old new : Telling)
+pub record BeganOut (aim : EpochChange) (m last : Membership) (gone : Option ℕ) (old new : RackState)
     : Type 0 where
   pub begun : Membership
   pub begins : Begins aim m begun
@@ -58,33 +58,33 @@ pub record BeganOut (aim : Aim) (m last : Membership) (gone : Option ℕ) (old n
       → Spread begun last here (admitted aim) gone old.history new.history
   pub counts : NoneFalls old.bads new.bads old.gones new.gones
 
-pub data Round (aim : Aim) (m last : Membership) (gone : Option ℕ) (old new : Telling)
+pub data Round (aim : EpochChange) (m last : Membership) (gone : Option ℕ) (old new : RackState)
     : Type 0 where
   BrokeOff : (j : ℕ) → gone ≡ Some j → DrewOut m last (Some j) old new
       → Round aim m last gone old new
-  WentOn : (mid : Membership) (between : Telling) → old.honest ≡ between.honest
+  WentOn : (mid : Membership) (between : RackState) → old.honest ≡ between.honest
       → DrewOut m mid None old between
       → BeganOut aim mid last gone between new → Round aim m last gone old new
 
-abbrev pub IsRound : Aim → Membership → Membership → Result (Option ℕ) FenceFault → Telling
-    → Telling → Type 0
+abbrev pub IsRound : EpochChange → Membership → Membership → Result (Option ℕ) FenceFault → RackState
+    → RackState → Type 0
 IsRound aim m last (Ok gone) old new = Round aim m last gone old new
 IsRound aim m last (Err fault) old new = IsRefused m last fault old new
 
 -- the aim that is left when a slot was gone
-abbrev pub left_after : Aim → ℕ → Aim
+abbrev pub left_after : EpochChange → ℕ → EpochChange
 left_after (Admit slot) j = if slot == j then Fence else Admit slot
 left_after (Promote slot) j = if slot == j then Fence else Promote slot
 left_after Fence j = Fence
 left_after (Stamp frozen label) j = Stamp frozen label
 
 -- an epoch stands, where these slots were gone; or it was refused
-pub record StandsWithout (aim : Aim) (m last : Membership) (gone : Slots) (old new : Telling)
+pub record StandsWithout (aim : EpochChange) (m last : Membership) (gone : Slots) (old new : RackState)
     : Type 0 where
   pub establishes : Establishes aim m last None old new
   pub gone_are : establishes.gone ≡ gone
 
-abbrev pub HasEstablished : Aim → Membership → Membership → Result Slots FenceFault → Telling
-    → Telling → Type 0
+abbrev pub HasEstablished : EpochChange → Membership → Membership → Result Slots FenceFault → RackState
+    → RackState → Type 0
 HasEstablished aim m last (Ok gone) old new = StandsWithout aim m last gone old new
 HasEstablished aim m last (Err fault) old new = Establishes aim m last (Some fault) old new

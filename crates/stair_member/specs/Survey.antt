@@ -15,7 +15,7 @@ use Rattle.stair_member.specs.Findings.{Findings, AreFound}
 use Rattle.stair_member.specs.Membership.{Membership, IsMissing, place_of, why_of}
 use Rattle.stair_member.specs.Reasons.{IsReason}
 use Rattle.stair_member.specs.Superblocks.{HoldsSuper, IsSuperOf, Counts, CountsFor, Identifies, IsOnlyIdentity}
-use Rattle.stair_rack.specs.Telling.{Telling}
+use Rattle.stair_rack.specs.RackState.{RackState}
 use Rattle.stair_member.specs.declared.fault.SurveyFault.{SurveyFault}
 use Rattle.stair_member.specs.declared.fault.SurveyFault.TheVariants.{NoArray, TwoArrays, TooFew}
 use Rattle.stair_member.specs.declared.why.Why.TheVariants.{Here}
@@ -78,7 +78,7 @@ IsAnswer f (Err (TooFew whys)) = (m : Membership) × IsSurveyed f m × (m.whys �
     × MoreThan m.array.geometry.m (IsMissing m)
 
 -- What a survey does.
-pub record Surveys (answer : Result Membership SurveyFault) (old new : Telling) : Type 0 where
+pub record Surveys (answer : Result Membership SurveyFault) (old new : RackState) : Type 0 where
   -- on any rack
   pub findings : Findings
   pub found : AreFound findings old new

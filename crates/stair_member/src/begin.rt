@@ -4,15 +4,15 @@ ghost use Rattle.stair_super.specs.Label.{IsLabel};
 ghost use Rattle.stair_super.specs.declared.mark.Mark.TheVariants as mark;
 ghost use Rattle.stair_member.specs.ChangesSteps.{Names, joined_then};
 ghost use Rattle.stair_member.specs.Aims.{aimed, frozen_then, label_then, mark_for};
-ghost use Rattle.stair_member.specs.declared.aim.Aim.TheVariants as admit;
+ghost use Rattle.stair_member.specs.declared.aim.EpochChange.TheVariants as admit;
 ghost use Rattle.stair_member.specs.declared.why.Why.TheVariants as why;
 
-use crate::aim::Aim;
+use crate::aim::EpochChange;
 use crate::why::Why;
 use stair_super::{Configuration, Label, Mark};
 
 // The reason of each slot.
-pub(crate) fn aimed_whys(whys: &[Why; 32], aim: &Aim) -> [Why; 32]
+pub(crate) fn aimed_whys(whys: &[Why; 32], aim: &EpochChange) -> [Why; 32]
     requires { (j : ℕ) → (aim.now ≡ admit.Admit j) ⊎ (aim.now ≡ admit.Promote j) → j < 32 }
     ensures each { (j : ℕ) → j < 32 → slice_index_or result j why.Here
         ≡ aimed aim.now j (slice_index_or whys.now j why.Here) }
@@ -20,9 +20,9 @@ pub(crate) fn aimed_whys(whys: &[Why; 32], aim: &Aim) -> [Why; 32]
 {
     let mut aimed = *whys;
     match aim {
-        Aim::Admit(slot) => aimed[usize::from(*slot)] = Why::Rebuilding,
-        Aim::Promote(slot) => aimed[usize::from(*slot)] = Why::Here,
-        Aim::Fence | Aim::Stamp(_, _) => {}
+        EpochChange::Admit(slot) => aimed[usize::from(*slot)] = Why::Rebuilding,
+        EpochChange::Promote(slot) => aimed[usize::from(*slot)] = Why::Here,
+        EpochChange::Fence | EpochChange::Stamp(_, _) => {}
     }
     aimed
 }
@@ -58,20 +58,25 @@ pub(crate) fn marks_of(whys: &[Why; 32], n: u8) -> [Mark; 32]
 }
 
 // The joined number of a slot that had this one.
-fn joined_of(mark: Mark, joined: u64, slot: u8, aim: &Aim, epoch: u64) -> u64
+fn joined_of(mark: Mark, joined: u64, slot: u8, aim: &EpochChange, epoch: u64) -> u64
     ensures { result ≡ joined_then aim.now epoch slot mark joined }
 {
     if mark == Mark::Down {
         return 0;
     }
     match aim {
-        Aim::Admit(admitted) => { if slot == *admitted { epoch } else { joined } }
-        Aim::Fence | Aim::Promote(_) | Aim::Stamp(_, _) => joined,
+        EpochChange::Admit(admitted) => { if slot == *admitted { epoch } else { joined } }
+        EpochChange::Fence | EpochChange::Promote(_) | EpochChange::Stamp(_, _) => joined,
     }
 }
 
 // The joined number of each slot.
-pub(crate) fn joins_of(marks: &[Mark; 32], joins: &[u64; 32], aim: &Aim, epoch: u64) -> [u64; 32]
+pub(crate) fn joins_of(
+    marks: &[Mark; 32],
+    joins: &[u64; 32],
+    aim: &EpochChange,
+    epoch: u64,
+) -> [u64; 32]
     ensures each { (j : ℕ) → j < 32 → slice_index result j
         ≡ joined_then aim.now epoch j (slice_index_or marks.now j mark.Down) (slice_index joins.now j) }
     ensures size { length result ≡ 32 }
@@ -85,23 +90,23 @@ pub(crate) fn joins_of(marks: &[Mark; 32], joins: &[u64; 32], aim: &Aim, epoch: 
 }
 
 // Whether the array is frozen then.
-pub(crate) fn frozen_of(array: &Configuration, aim: &Aim) -> bool
+pub(crate) fn frozen_of(array: &Configuration, aim: &EpochChange) -> bool
     ensures { result ≡ frozen_then aim.now array.now }
 {
     match aim {
-        Aim::Stamp(frozen, _) => *frozen,
-        Aim::Fence | Aim::Admit(_) | Aim::Promote(_) => array.frozen,
+        EpochChange::Stamp(frozen, _) => *frozen,
+        EpochChange::Fence | EpochChange::Admit(_) | EpochChange::Promote(_) => array.frozen,
     }
 }
 
 // Its label then.
-pub(crate) fn label_of(array: &Configuration, aim: &Aim) -> Label
+pub(crate) fn label_of(array: &Configuration, aim: &EpochChange) -> Label
     ensures value { result ≡ label_then aim.now array.now }
     ensures rules { IsLabel result }
 {
     let label = match aim {
-        Aim::Stamp(_, label) => *label,
-        Aim::Fence | Aim::Admit(_) | Aim::Promote(_) => array.label,
+        EpochChange::Stamp(_, label) => *label,
+        EpochChange::Fence | EpochChange::Admit(_) | EpochChange::Promote(_) => array.label,
     };
     // a label keeps its rules
     let _text = label.bytes();
@@ -112,7 +117,7 @@ pub(crate) fn label_of(array: &Configuration, aim: &Aim) -> Label
 pub(crate) fn begun_array(
     array: &Configuration,
     whys: &[Why; 32],
-    aim: &Aim,
+    aim: &EpochChange,
     epoch: u64,
 ) -> Configuration
     requires { array.now.geometry.n ≤ 32 }

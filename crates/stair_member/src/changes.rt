@@ -15,7 +15,7 @@ ghost use Rattle.stair_member.specs.ChangesSteps.{
 ghost use Rattle.stair_member.specs.Establishing.{AreFallen, Leaves};
 ghost use Rattle.stair_member.specs.Membership.{IsMembership, IsMissing};
 
-use crate::aim::Aim;
+use crate::aim::EpochChange;
 use crate::begin::{aimed_whys, begun_array};
 use crate::member::Member;
 use crate::why::Why;
@@ -80,7 +80,7 @@ impl Member {
     }
 
     // The slot was gone.
-    pub(crate) fn leave_out(&mut self, slot: u8)
+    pub(crate) fn mark_gone(&mut self, slot: u8)
         requires { slot < self.old.array.geometry.n }
         ensures is { self.new ≡ without self.old slot }
         ensures rules { IsMembership self.new }
@@ -89,20 +89,20 @@ impl Member {
     }
 
     // These slots are dropped.
-    pub(crate) fn leave_out_all(&mut self, leaving: Slots)
+    pub(crate) fn mark_all_gone(&mut self, leaving: Slots)
         requires { (j : ℕ) → HasSlot leaving j → j < self.old.array.geometry.n }
         ensures is { Leaves leaving self.old self.new }
         ensures rules { IsMembership self.new }
     {
         for slot in 0..self.array.geometry.n() {
             if leaving.has(slot) {
-                self.leave_out(slot);
+                self.mark_gone(slot);
             }
         }
     }
 
     // The slot's next superblock goes to its other place.
-    pub(crate) fn turn(&mut self, slot: u8)
+    pub(crate) fn flip_place(&mut self, slot: u8)
         requires { slot < 32 }
         ensures is { self.new ≡ turned self.old slot }
         ensures rules { IsMembership self.new }
@@ -112,7 +112,7 @@ impl Member {
     }
 
     // The epoch of the last draw begins.
-    pub(crate) fn begin(&mut self, aim: &Aim)
+    pub(crate) fn begin(&mut self, aim: &EpochChange)
         requires { MayBegin aim.now self.old }
         ensures begun { Begins aim.now self.old self.new }
         ensures rules { IsMembership self.new }

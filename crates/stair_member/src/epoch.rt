@@ -7,10 +7,10 @@ ghost use Rattle.stair_member.specs.Aims.{admitted};
 ghost use Rattle.stair_member.specs.Establishing.{Fences, Joins, Stamps};
 ghost use Rattle.stair_member.specs.Membership.{IsMembership, why_of};
 ghost use Rattle.stair_rack.specs.Told.{told};
-ghost use Rattle.stair_member.specs.declared.aim.Aim.TheVariants.{Admit, Promote};
+ghost use Rattle.stair_member.specs.declared.aim.EpochChange.TheVariants.{Admit, Promote};
 ghost use Rattle.stair_member.specs.declared.why.Why.TheVariants as why;
 
-use crate::aim::Aim;
+use crate::aim::EpochChange;
 use crate::establish::establish;
 use crate::fault::{AdmitFault, FenceFault};
 use crate::member::Member;
@@ -35,14 +35,14 @@ pub fn fence<R: Rack>(
     leaving: Slots,
 ) -> Result<Slots, FenceFault>
     requires { (j : ℕ) → HasSlot leaving j → j < member.old.array.geometry.n }
-    ensures told { Fences leaving member.old member.new result (told R.Rack rack.old)
+    ensures does { Fences leaving member.old member.new result (told R.Rack rack.old)
         (told R.Rack rack.new) }
     ensures rules { IsMembership member.new }
     ensures reads { R.reads rack.new ≡ R.reads rack.old }
 {
     let before = *member;
-    member.leave_out_all(leaving);
-    match establish(rack, member, Aim::Fence) {
+    member.mark_all_gone(leaving);
+    match establish(rack, member, EpochChange::Fence) {
         Err(fault) => Err(fault),
         Ok(_) => Ok(member.fallen_since(&before)),
     }
@@ -56,13 +56,13 @@ pub fn stamp<R: Rack>(
     frozen: bool,
     label: Label,
 ) -> Result<Slots, FenceFault>
-    ensures told { Stamps frozen label member.old member.new result (told R.Rack rack.old)
+    ensures does { Stamps frozen label member.old member.new result (told R.Rack rack.old)
         (told R.Rack rack.new) }
     ensures rules { IsMembership member.new }
     ensures reads { R.reads rack.new ≡ R.reads rack.old }
 {
     let before = *member;
-    match establish(rack, member, Aim::Stamp(frozen, label)) {
+    match establish(rack, member, EpochChange::Stamp(frozen, label)) {
         Err(fault) => Err(fault),
         Ok(_) => Ok(member.fallen_since(&before)),
     }
@@ -74,20 +74,20 @@ pub fn stamp<R: Rack>(
 /// The slot's superblock is written to its next place and then to the other one, each synced before the next. Where the slot
 /// was gone meanwhile `Gone` comes, and an epoch without it stands. Otherwise it is refused as a fence is.
 ///
-/// The member is to have looked at the medium (`Member::see`): the place that holds the newer of its superblocks is written
+/// The member is to have looked at the medium (`Member::observe`): the place that holds the newer of its superblocks is written
 /// last. The laws of epochs ask that neither place holds a superblock of a greater draw than the member has seen, since such
 /// a one would hide those of the new epoch. After a call that established an epoch `MayJoin` says so.
 pub fn admit<R: Rack>(rack: &mut R, member: &mut Member, slot: u8) -> Result<Slots, AdmitFault>
     requires below { slot < member.old.array.geometry.n }
     requires down { mark_in member.old.array slot ≡ mark.Down }
-    ensures told { Joins (Admit slot) slot member.old member.new result (told R.Rack rack.old)
+    ensures does { Joins (Admit slot) slot member.old member.new result (told R.Rack rack.old)
         (told R.Rack rack.new) }
     ensures rules { IsMembership member.new }
     ensures reads { R.reads rack.new ≡ R.reads rack.old }
 {
     // the member keeps its rules
     let _epoch = member.epoch();
-    join(rack, member, slot, Aim::Admit(slot))
+    join(rack, member, slot, EpochChange::Admit(slot))
 }
 
 /// Establishes an epoch, as [`fence`] does, in which this slot, which was Rebuilding, is Live. The slots that became Down are
@@ -95,20 +95,25 @@ pub fn admit<R: Rack>(rack: &mut R, member: &mut Member, slot: u8) -> Result<Slo
 pub fn promote<R: Rack>(rack: &mut R, member: &mut Member, slot: u8) -> Result<Slots, AdmitFault>
     requires below { slot < member.old.array.geometry.n }
     requires rebuilding { why_of member.old slot ≡ why.Rebuilding }
-    ensures told { Joins (Promote slot) slot member.old member.new result (told R.Rack rack.old)
+    ensures does { Joins (Promote slot) slot member.old member.new result (told R.Rack rack.old)
         (told R.Rack rack.new) }
     ensures rules { IsMembership member.new }
     ensures reads { R.reads rack.new ≡ R.reads rack.old }
 {
-    join(rack, member, slot, Aim::Promote(slot))
+    join(rack, member, slot, EpochChange::Promote(slot))
 }
 
 // Establishes an epoch for this slot.
-fn join<R: Rack>(rack: &mut R, member: &mut Member, slot: u8, aim: Aim) -> Result<Slots, AdmitFault>
+fn join<R: Rack>(
+    rack: &mut R,
+    member: &mut Member,
+    slot: u8,
+    aim: EpochChange,
+) -> Result<Slots, AdmitFault>
     requires below { slot < member.old.array.geometry.n }
     requires may { MayBegin aim member.old }
     requires down { (j : ℕ) → admitted aim ≡ Some j → why_of member.old j ≢ why.Here }
-    ensures told { Joins aim slot member.old member.new result (told R.Rack rack.old)
+    ensures does { Joins aim slot member.old member.new result (told R.Rack rack.old)
         (told R.Rack rack.new) }
     ensures rules { IsMembership member.new }
     ensures reads { R.reads rack.new ≡ R.reads rack.old }

@@ -7,34 +7,34 @@ ghost use Rattle.stair_member.specs.RoundSteps.{HasEstablished, left_after};
 ghost use Rattle.stair_rack.specs.Told.{told};
 ghost use Rattle.stair_member.specs.declared.why.Why.TheVariants as why;
 
-use crate::aim::Aim;
+use crate::aim::EpochChange;
+use crate::attempt::attempt;
 use crate::fault::FenceFault;
 use crate::member::Member;
-use crate::round::round;
 use stair_base::Slots;
 use stair_rack::Rack;
 
 // What is left of the aim without this slot.
-fn left_of(aim: &Aim, slot: u8) -> Aim
+fn left_of(aim: &EpochChange, slot: u8) -> EpochChange
     ensures { result ≡ left_after aim.now slot }
 {
     match aim {
-        Aim::Admit(own) => {
+        EpochChange::Admit(own) => {
             if *own == slot {
-                Aim::Fence
+                EpochChange::Fence
             } else {
-                Aim::Admit(*own)
+                EpochChange::Admit(*own)
             }
         }
-        Aim::Promote(own) => {
+        EpochChange::Promote(own) => {
             if *own == slot {
-                Aim::Fence
+                EpochChange::Fence
             } else {
-                Aim::Promote(*own)
+                EpochChange::Promote(*own)
             }
         }
-        Aim::Fence => Aim::Fence,
-        Aim::Stamp(frozen, label) => Aim::Stamp(*frozen, *label),
+        EpochChange::Fence => EpochChange::Fence,
+        EpochChange::Stamp(frozen, label) => EpochChange::Stamp(*frozen, *label),
     }
 }
 
@@ -42,11 +42,11 @@ fn left_of(aim: &Aim, slot: u8) -> Aim
 pub(crate) fn establish<R: Rack>(
     rack: &mut R,
     member: &mut Member,
-    aim: Aim,
+    aim: EpochChange,
 ) -> Result<Slots, FenceFault>
     requires may { MayBegin aim member.old }
     requires down { (j : ℕ) → admitted aim ≡ Some j → why_of member.old j ≢ why.Here }
-    ensures told { HasEstablished aim member.old member.new result (told R.Rack rack.old)
+    ensures does { HasEstablished aim member.old member.new result (told R.Rack rack.old)
         (told R.Rack rack.new) }
     ensures reads { R.reads rack.new ≡ R.reads rack.old }
     ensures rules { IsMembership member.new }
@@ -56,12 +56,12 @@ pub(crate) fn establish<R: Rack>(
     let mut left = aim;
     let mut gone = Slots::empty();
     loop {
-        match round(rack, member, &left) {
+        match attempt(rack, member, &left) {
             Err(fault) => return Err(fault),
             Ok(None) => return Ok(gone),
             Ok(Some(slot)) => {
                 gone.add(slot);
-                member.leave_out(slot);
+                member.mark_gone(slot);
                 left = left_of(&left, slot);
             }
         }

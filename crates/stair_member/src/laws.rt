@@ -12,7 +12,7 @@ ghost use Rattle.stair_rack.specs.Stretch.{NothingReturned};
 ghost use Rattle.stair_super.specs.Spelling.{spelled};
 ghost use Rattle.stair_super.specs.Superblock.{Superblock};
 ghost use Rattle.stair_member.specs.Aims.{admitted, mark_for};
-ghost use Rattle.stair_member.specs.declared.aim.Aim.{Aim};
+ghost use Rattle.stair_member.specs.declared.aim.EpochChange.{EpochChange};
 ghost use Rattle.stair_member.specs.declared.why.Why.TheVariants.{Here};
 ghost use Rattle.stair_member.specs.Counting.{MoreThan, AtMost, AllBut};
 ghost use Rattle.stair_member.specs.Current.{HasMark, IsCurrent, IsFailed, Serves};
@@ -100,7 +100,7 @@ pub fn epoch_laws()
         Bears m.array.geometry j ((image j).cell) s →
         MayBear m.array.geometry old j s ⊎ IsCopy slots editions j s }
     // where all slots but m have a new draw with an epoch on their disks, none earlier than it is current
-    ensures no_earlier { (aim : Aim) (gone : Slots) (m last : Membership)
+    ensures no_earlier { (aim : EpochChange) (gone : Slots) (m last : Membership)
         (old h new : List Happening) (image : Image) (offline : Slots) (current : Superblock)
         (draw epoch : ℕ) (fencing : IsFencing aim gone m last old h new) →
         CrashMayLeave h image → IsCurrent m.array.geometry image current →
@@ -108,25 +108,25 @@ pub fn epoch_laws()
         m.drawn < draw → AllBut m.array.geometry.n m.array.geometry.m
         (HasDraw fencing.issued.editions draw epoch old h) → epoch ≤ current.array.epoch }
     // once an epoch stands it is current, and the slots that are live are here
-    ensures stands { (aim : Aim) (gone : Slots) (m last : Membership) (old new : List Happening)
+    ensures stands { (aim : EpochChange) (gone : Slots) (m last : Membership) (old new : List Happening)
         (image : Image) (offline : Slots) (current : Superblock) →
         HasStood aim gone m last old new → CrashMayLeave new image →
         IsCurrent m.array.geometry image current →
         AtMost m.array.geometry.m (IsFailed (HasSlot offline) m.array.geometry image current) →
         IsNamedBy last image current }
     // and at each moment the superblocks are in order
-    ensures orderly { (aim : Aim) (gone : Slots) (m last : Membership)
+    ensures orderly { (aim : EpochChange) (gone : Slots) (m last : Membership)
         (old h new : List Happening) (image : Image) → IsFencing aim gone m last old h new →
         CrashMayLeave h image → IsOrderly m.array.geometry image }
     // and each slot has still reached the epochs that it had, but the slot that joins;
-    ensures each_reached { (aim : Aim) (gone : Slots) (m last : Membership)
+    ensures each_reached { (aim : EpochChange) (gone : Slots) (m last : Membership)
         (old h new : List Happening) (image : Image) (j epoch : ℕ) →
         IsFencing aim gone m last old h new → CrashMayLeave h image →
         epoch ≤ m.array.epoch → admitted aim ≢ Some j →
         HasReached m.array.geometry (image_now old) epoch j →
         HasReached m.array.geometry image epoch j }
     // so all slots but m have still reached the one before
-    ensures reached { (aim : Aim) (gone : Slots) (m last : Membership)
+    ensures reached { (aim : EpochChange) (gone : Slots) (m last : Membership)
         (old h new : List Happening) (image : Image) → IsFencing aim gone m last old h new →
         CrashMayLeave h image →
         AllBut m.array.geometry.n m.array.geometry.m (λ j. (admitted aim ≢ Some j)
@@ -134,25 +134,25 @@ pub fn epoch_laws()
         AllBut m.array.geometry.n m.array.geometry.m
         (HasReached m.array.geometry image m.array.epoch) }
     // Once an epoch stands each slot that takes part has reached it,
-    ensures each_stood { (aim : Aim) (gone : Slots) (m last : Membership)
+    ensures each_stood { (aim : EpochChange) (gone : Slots) (m last : Membership)
         (old new : List Happening) (image : Image) (j : ℕ) →
         HasStood aim gone m last old new → CrashMayLeave new image → IsHere last j →
         HasReached last.array.geometry image last.array.epoch j }
     // so all slots but m are live and have
-    ensures stood { (aim : Aim) (gone : Slots) (m last : Membership) (old new : List Happening)
+    ensures stood { (aim : EpochChange) (gone : Slots) (m last : Membership) (old new : List Happening)
         (image : Image) → HasStood aim gone m last old new → CrashMayLeave new image →
         AllBut last.array.geometry.n last.array.geometry.m (λ j. (why_of last j ≡ Here)
         × HasReached last.array.geometry image last.array.epoch j) }
     // One whose last place holds its superblock has its mark by each superblock that names the epoch, whatever became of
     // its other place.
-    ensures takes_part { (aim : Aim) (gone : Slots) (m last : Membership)
+    ensures takes_part { (aim : EpochChange) (gone : Slots) (m last : Membership)
         (old new : List Happening) (image : Image) (j : ℕ) (current : Superblock) →
         HasStood aim gone m last old new → CrashMayLeave new image → IsHere last j →
         (image j).cell (1 - place_of last j) ≡ Good (spelled (copy_of (edition_of last) j)) →
         current.array ≡ last.array →
         HasMark last.array.geometry image current (mark_for (why_of last j)) j }
     // so that after an epoch that stands the next call begins likewise, unless the rack is stopped
-    ensures again { (aim : Aim) (gone : Slots) (next : Option ℕ) (m last : Membership)
+    ensures again { (aim : EpochChange) (gone : Slots) (next : Option ℕ) (m last : Membership)
         (old new : List Happening) → HasStood aim gone m last old new → MayJoin next last new →
         ¬ IsTrue (stopped new) → IsBegun next last new }
     // and a call begins likewise with the member of which some slots leave

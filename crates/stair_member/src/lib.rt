@@ -2,23 +2,23 @@
 #![tactic(auto)]
 
 mod aim;
+mod attempt;
 mod begin;
 mod changes;
 mod epoch;
 mod establish;
 mod fault;
-mod hand;
 mod judge;
 pub mod laws;
 mod look;
 mod member;
 mod probe;
-mod round;
 mod seeing;
+mod superblock_writes;
 mod surveying;
 mod why;
 
-pub use aim::Aim;
+pub use aim::EpochChange;
 pub use epoch::{admit, fence, promote, stamp};
 pub use fault::{AdmitFault, FenceFault, SurveyFault};
 pub use member::Member;

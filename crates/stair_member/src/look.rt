@@ -33,7 +33,7 @@ pub(crate) fn look_at<R: Rack>(rack: &mut R, slot: u8) -> Sight
     ensures began { IsTrue R.is_honest → IsHistory (R.history rack.old) }
     ensures asked { IsTrue R.is_honest →
         AsksSlot slot (R.history rack.old) (R.history rack.new) }
-    ensures told { IsSight slot (told R.Rack rack.old) (told R.Rack rack.new)
+    ensures does { IsSight slot (told R.Rack rack.old) (told R.Rack rack.new)
         result.newest result.next result.gone }
     ensures counts { NoneFalls (R.bads rack.old) (R.bads rack.new) (R.gones rack.old)
         (R.gones rack.new) }

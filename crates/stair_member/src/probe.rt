@@ -68,7 +68,7 @@ impl SlotProbe {
 /// A slot that is gone to the first read is read a second time. Nothing is written, and no memory is taken.
 pub fn probe_slot<R: Rack>(rack: &mut R, slot: u8) -> SlotProbe
     requires { slot < 32 }
-    ensures told { ProbesSlot slot result (told R.Rack rack.old) (told R.Rack rack.new) }
+    ensures does { ProbesSlot slot result (told R.Rack rack.old) (told R.Rack rack.new) }
     ensures counts { NoneFalls (R.bads rack.old) (R.bads rack.new) (R.gones rack.old)
         (R.gones rack.new) }
     ensures reads { RisesAtMost 2 (R.reads rack.old) (R.reads rack.new) }
@@ -80,7 +80,7 @@ pub fn probe_slot<R: Rack>(rack: &mut R, slot: u8) -> SlotProbe
 
 fn read_place<R: Rack>(rack: &mut R, slot: u8, place: u32) -> PlaceProbe
     requires { slot < 32 }
-    ensures told { ProbesPlace slot place result (told R.Rack rack.old) (told R.Rack rack.new) }
+    ensures does { ProbesPlace slot place result (told R.Rack rack.old) (told R.Rack rack.new) }
     ensures counts { NoneFalls (R.bads rack.old) (R.bads rack.new) (R.gones rack.old)
         (R.gones rack.new) }
     ensures reads { RisesAtMost 1 (R.reads rack.old) (R.reads rack.new) }

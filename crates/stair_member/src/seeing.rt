@@ -15,7 +15,7 @@ impl Member {
     ///
     /// The next draw will be above theirs, so that none hides those of the admission, and the slot's next superblock goes to
     /// the place that doesn't hold the newer one. Without it the laws of epochs don't speak of the admission.
-    pub fn see(&mut self, slot: u8, first: Option<Super>, second: Option<Super>)
+    pub fn observe(&mut self, slot: u8, first: Option<Super>, second: Option<Super>)
         requires below { slot < self.old.array.geometry.n }
         requires down { mark_in self.old.array slot ≡ mark.Down }
         ensures is { Sees slot first second self.old self.new }
@@ -23,7 +23,7 @@ impl Member {
     {
         self.see_draw(draw_of(&first));
         self.see_draw(draw_of(&second));
-        self.point(slot, next_place(first, second));
+        self.set_place(slot, next_place(first, second));
     }
 
     // A draw is seen.
@@ -37,7 +37,7 @@ impl Member {
     }
 
     // The slot's next superblock goes to this place.
-    fn point(&mut self, slot: u8, place: u32)
+    fn set_place(&mut self, slot: u8, place: u32)
         requires slot { slot < 32 }
         requires place { place < 2 }
         ensures is { self.new ≡ record self.old { places = slice_set self.old.places slot place } }

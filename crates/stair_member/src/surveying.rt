@@ -32,7 +32,7 @@ struct Sights {
 ///
 /// Nothing is written, and no memory is taken.
 pub fn survey<R: Rack>(rack: &mut R) -> Result<Member, SurveyFault>
-    ensures told { Surveys result (told R.Rack rack.old) (told R.Rack rack.new) }
+    ensures does { Surveys result (told R.Rack rack.old) (told R.Rack rack.new) }
     ensures rules { IfOk result IsMembership }
     ensures reads { RisesAtMost 64 (R.reads rack.old) (R.reads rack.new) }
 {
@@ -44,7 +44,7 @@ fn find_all<R: Rack>(rack: &mut R) -> Sights
     ensures began { IsTrue R.is_honest → IsHistory (R.history rack.old) }
     ensures asked { IsTrue R.is_honest →
         AsksBelow 32 (R.history rack.old) (R.history rack.new) }
-    ensures told { AreSights result (told R.Rack rack.old) (told R.Rack rack.new) }
+    ensures does { AreSights result (told R.Rack rack.old) (told R.Rack rack.new) }
     ensures counts { NoneFalls (R.bads rack.old) (R.bads rack.new) (R.gones rack.old)
         (R.gones rack.new) }
     ensures reads { RisesAtMost 64 (R.reads rack.old) (R.reads rack.new) }
@@ -67,7 +67,7 @@ fn find_all<R: Rack>(rack: &mut R) -> Sights
 
 fn judge(sights: &Sights) -> Result<Member, SurveyFault>
     requires { (f : Findings) × Tells sights.now f }
-    ensures told { (f : Findings) → Tells sights.now f → IsAnswer f result }
+    ensures does { (f : Findings) → Tells sights.now f → IsAnswer f result }
     ensures rules { IfOk result IsMembership }
 {
     let found = &sights.newest;

@@ -202,7 +202,7 @@ impl Rack for MemRack {
     fn attach(&mut self, slot: u8) -> Reply
         requires { slot < 32 }
         ensures began { IsHistory (history_of self.old) }
-        ensures told { Calls (history_of self.old) (history_of self.new) slot (Attach result) }
+        ensures does { Calls (history_of self.old) (history_of self.new) slot (Attach result) }
         ensures counts { NoneFalls self.old.bads self.new.bads (slice_index self.old.gones)
             (slice_index self.new.gones) }
         ensures gone { result ≡ Reply.Gone →
@@ -219,7 +219,7 @@ impl Rack for MemRack {
     fn sectors(&mut self, slot: u8) -> u32
         requires { slot < 32 }
         ensures began { IsHistory (history_of self.old) }
-        ensures told { Calls (history_of self.old) (history_of self.new) slot (Sectors result) }
+        ensures does { Calls (history_of self.old) (history_of self.new) slot (Sectors result) }
         ensures counts { NoneFalls self.old.bads self.new.bads (slice_index self.old.gones)
             (slice_index self.new.gones) }
         ensures reads { Some self.new.reads ≡ Some self.old.reads }
@@ -234,7 +234,7 @@ impl Rack for MemRack {
     fn read(&mut self, slot: u8, sector: u32, into: &mut [u8; 512]) -> Got
         requires { slot < 32 }
         ensures began { IsHistory (history_of self.old) }
-        ensures told { Calls (history_of self.old) (history_of self.new) slot (Read sector result) }
+        ensures does { Calls (history_of self.old) (history_of self.new) slot (Read sector result) }
         ensures good { result ≡ Got.Good →
             content ((slot_state (history_of self.new) slot).sector sector) ≡ Good into.new }
         ensures unread { result ≢ Got.Good → into.new ≡ into.old }
@@ -255,7 +255,7 @@ impl Rack for MemRack {
     fn write(&mut self, slot: u8, sector: u32, from: &[u8; 512]) -> Reply
         requires { slot < 32 }
         ensures began { IsHistory (history_of self.old) }
-        ensures told { Calls (history_of self.old) (history_of self.new) slot
+        ensures does { Calls (history_of self.old) (history_of self.new) slot
             (Write sector from.now result) }
         ensures counts { NoneFalls self.old.bads self.new.bads (slice_index self.old.gones)
             (slice_index self.new.gones) }
@@ -274,7 +274,7 @@ impl Rack for MemRack {
     fn sync(&mut self, slot: u8) -> Reply
         requires { slot < 32 }
         ensures began { IsHistory (history_of self.old) }
-        ensures told { Calls (history_of self.old) (history_of self.new) slot (Sync result) }
+        ensures does { Calls (history_of self.old) (history_of self.new) slot (Sync result) }
         ensures counts { NoneFalls self.old.bads self.new.bads (slice_index self.old.gones)
             (slice_index self.new.gones) }
         ensures gone { result ≡ Reply.Gone →
@@ -313,7 +313,7 @@ fn blank_for(alloc: Global, what: What) -> Result<Option<Disk>, AllocError>
 // Tells an attach of a stopped rack, where it releases what was found before.
 fn tell(lets_go: bool, slot: u8, late: &mut Vec<u8>)
     requires { lets_go ≡ true → vec_len late.old < vec_capacity late.old }
-    ensures told { late.new.items ≡ (if lets_go then late.old.items ++ slot ∷ []
+    ensures does { late.new.items ≡ (if lets_go then late.old.items ++ slot ∷ []
         else late.old.items) }
     ensures memory { vec_capacity late.new ≡ vec_capacity late.old }
 {

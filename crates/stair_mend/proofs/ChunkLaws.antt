@@ -6,7 +6,7 @@ use Rattle.stair_rack.specs.Answers.{IsHistory, any_call}
 use Rattle.stair_rack.specs.Crash.{EachImage}
 use Rattle.stair_rack.specs.History.{Happening}
 use Rattle.stair_rack.specs.Moments.{AtEveryMoment, IsMoment}
-use Rattle.stair_rack.specs.Telling.{Telling}
+use Rattle.stair_rack.specs.RackState.{RackState}
 use Rattle.stair_rack.specs.declared.rack.Reply.{Reply}
 use Rattle.stair_rack.specs.declared.rack.Reply.TheVariants as reply
 use Rattle.stair_rack.proofs.MomentLemmas.{at_moment, ran_join}
@@ -14,13 +14,13 @@ use Rattle.stair_super.specs.declared.configuration.Configuration.{Configuration
 use Rattle.stair_member.specs.Membership.{Membership}
 use Rattle.stair_state.specs.Blocks.{AreEncodingsOf, Codewords}
 use Rattle.stair_state.specs.State.{Content, State}
-use Rattle.stair_session.specs.Courses.{Point, point}
-use Rattle.stair_session.specs.InSession.{IsOfContent, state_with}
-use Rattle.stair_session.specs.Rebuilding.{Rebuild}
-use Rattle.stair_session.specs.Returning.{IsCalm, Knows, Returning}
-use Rattle.stair_session.specs.Session.{ArrayState, Remembered, seats_in}
-use Rattle.stair_session.proofs.Mending.{LeadsBeside, LeadsPromotions}
-use Rattle.stair_session.proofs.Serving.{IsCalmTo, IsServing, LeadsReads}
+use Rattle.stair_invariant.specs.Effects.{Snapshot, snapshot}
+use Rattle.stair_invariant.specs.InSession.{IsOfContent, state_with}
+use Rattle.stair_invariant.specs.Rebuilding.{Rebuild}
+use Rattle.stair_invariant.specs.Returning.{StaysWithinTolerance, Knows, Returning}
+use Rattle.stair_invariant.specs.Session.{ArrayState, Remembered, seats_in}
+use Rattle.stair_invariant.proofs.Mending.{LeadsBeside, LeadsPromotions}
+use Rattle.stair_invariant.proofs.Serving.{StaysWithinToleranceTo, IsServing, LeadsReads}
 use Rattle.stair_array.specs.Causes.{IsNextChunk}
 use Rattle.stair_array.specs.Machine.{EpochsSpent, RebuildNext, Refusal, Row, SeatsAfter}
 use Rattle.stair_array.specs.MendingSteps.{WritesNext}
@@ -39,7 +39,7 @@ use Rattle.stair_mend.proofs.StepLemmas.{next_dropped, next_refused, next_wrote}
 
 -- A CHUNK AS A STEP
 
-module _ (was : ArrayState) (j t : ℕ) (next : IsNextChunk was j t) (answer : Result Reply Refusal) (x y : Point) (writes : WritesNext j t answer x y) where
+module _ (was : ArrayState) (j t : ℕ) (next : IsNextChunk was j t) (answer : Result Reply Refusal) (x y : Snapshot) (writes : WritesNext j t answer x y) where
   pub chunk_step : t < x.member.array.geometry.stripes → t + 1 < x.member.array.geometry.stripes → (given : Result Reply Refusal) → answer ≡ given
       → Rebuilds was (chunk_came j t given) x y
   chunk_step below more (Ok reply.Done) same = next_wrote was j t next answer x y writes more same
@@ -50,10 +50,10 @@ module _ (was : ArrayState) (j t : ℕ) (next : IsNextChunk was j t) (answer : R
 
 module _ (returning : Returning) (laws : LeadsReads returning) (besides : LeadsBeside returning) (promotions : LeadsPromotions returning)
     (before : List Happening) (was : ArrayState) (words : Codewords) (kept : Content) where
-  abbrev ServesAt : Point → Type 0
+  abbrev ServesAt : Snapshot → Type 0
   ServesAt x = Serves returning before was.rebuild was.stopped words kept x x.told.history
 
-  pub next_moments : (j t : ℕ) (answer : Result Reply Refusal) (x z : Point) → WritesNext j t answer x z → IsNextChunk was j t
+  pub next_moments : (j t : ℕ) (answer : Result Reply Refusal) (x z : Snapshot) → WritesNext j t answer x z → IsNextChunk was j t
       → t < x.member.array.geometry.stripes → ServesAt x → NextIsRebuilt was x → IsTrue z.told.honest
       → AtEveryMoment (MovesAt returning before kept x.member) x.told.history z.told.history
   next_moments j t _ _ _ (WritesNext.Unread into refusal x y loads) at below is next honest =
@@ -94,9 +94,9 @@ module _ (returning : Returning) (laws : LeadsReads returning) (besides : LeadsB
 
 -- of a rack that is an array in a state
 module _ (returning : Returning) (laws : LeadsReads returning) (besides : LeadsBeside returning) (promotions : LeadsPromotions returning)
-    (m last : Membership) (rebuild : Option Rebuild) (known : Option Remembered) (j t : ℕ) (answer : Result Reply Refusal) (x y : Telling)
+    (m last : Membership) (rebuild : Option Rebuild) (known : Option Remembered) (j t : ℕ) (answer : Result Reply Refusal) (x y : RackState)
     (before : List Happening) (s : State) (at : IsNextChunk (running m rebuild known) j t) (below : t < m.array.geometry.stripes)
-    (wrote : WritesNext j t answer (point m x) (point last y)) (honest : IsTrue y.honest) (history : IsHistory x.history)
+    (wrote : WritesNext j t answer (snapshot m x) (snapshot last y)) (honest : IsTrue y.honest) (history : IsHistory x.history)
     (state : IsInState returning before s (record { told = x; session = Opened (running m rebuild known) })) where
   abbrev was : ArrayState
   was = running m rebuild known
@@ -131,7 +131,7 @@ module _ (returning : Returning) (laws : LeadsReads returning) (besides : LeadsB
     knows = subst (λ (r : State). Knows returning r m x.history) same_state begins.knows;
   }
 
-  calm_begun : (h : List Happening) → IsCalm returning s.geometry true before h → IsCalmTo returning m.array.geometry before h
+  calm_begun : (h : List Happening) → StaysWithinTolerance returning s.geometry true before h → StaysWithinToleranceTo returning m.array.geometry before h
   calm_begun h = calm_over returning m.array.geometry s.geometry before h begins.geometry
 
   spent_moves : (array : Configuration) → MayMove (seats_in m.array) (seats_in array)
@@ -151,12 +151,12 @@ module _ (returning : Returning) (laws : LeadsReads returning) (besides : LeadsB
     marks = spent_moves array moved;
   }
 
-  pub chunk_cuts : (c : List Happening) → IsMoment x.history c y.history → IsCalm returning s.geometry true before c
+  pub chunk_cuts : (c : List Happening) → IsMoment x.history c y.history → StaysWithinTolerance returning s.geometry true before c
       → EachImage (IsLeftBy returning RebuildNext m before c s) c
   chunk_cuts c moment calm image left =
       let is =
       at_moment {P = MovesAt returning before s.content m}
-      (next_moments returning laws besides promotions before was begins.words s.content j t answer (point m x) (point last y) wrote at below serves
+      (next_moments returning laws besides promotions before was begins.words s.content j t answer (snapshot m x) (snapshot last y) wrote at below serves
       (next_rebuilt was x begins.is_open.array) honest) moment (calm_begun c calm) image left in
       record {
         state = state_with m s.content None is.0;

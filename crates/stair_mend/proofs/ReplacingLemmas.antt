@@ -10,14 +10,14 @@ use Rattle.stair_rack.specs.Placed.{IsGoneSlot, IsSlot, IsSyncOf, IsWriteOf, Pla
 use Rattle.stair_rack.specs.RackCounts.{NoneFalls}
 use Rattle.stair_rack.specs.Sector.{Cell}
 use Rattle.stair_rack.specs.Stretch.{IsNoWrite}
-use Rattle.stair_rack.specs.Telling.{IsLater, IsReading, Telling, telling}
+use Rattle.stair_rack.specs.RackState.{IsLater, IsReading, RackState, rack_state}
 use Rattle.stair_rack.specs.declared.rack.Reply.{Reply}
 use Rattle.stair_rack.specs.declared.rack.Reply.TheVariants as reply
 use Rattle.stair_rack.proofs.CallLemmas.{attach_found, sectors_of_last}
 use Rattle.stair_rack.proofs.MomentLemmas.{IsThis, calls_ran, moment_between, ran_any, ran_join, ran_none, ran_weakened}
 use Rattle.stair_rack.proofs.OfflineLemmas.{offline_now}
 use Rattle.stair_rack.proofs.PlacedLemmas.{Placed-same}
-use Rattle.stair_rack.proofs.TellingLemmas.{later_called, later_join, later_none, reading_wider}
+use Rattle.stair_rack.proofs.RackStateLemmas.{later_called, later_join, later_none, reading_wider}
 use Rattle.stair_super.specs.Superblock.{Superblock}
 use Rattle.stair_super.specs.declared.configuration.Configuration.{Configuration}
 use Rattle.stair_member.specs.Membership.{IsMembership, Membership}
@@ -31,8 +31,8 @@ use Rattle.stair_member.proofs.ProbeLemmas.{probe_gone, probe_later, probe_readi
 use Rattle.stair_member.proofs.SightLemmas.{both, place_cases}
 use Rattle.stair_member.proofs.SuperLemmas.{holds_once}
 use Rattle.stair_member.specs.declared.why.Why.{Why}
-use Rattle.stair_session.specs.Courses.{Point, point}
-use Rattle.stair_session.specs.Rebuilding.{Rebuild}
+use Rattle.stair_invariant.specs.Effects.{Snapshot, snapshot}
+use Rattle.stair_invariant.specs.Rebuilding.{Rebuild}
 use Rattle.stair_array.specs.Arrays.{IsUnderWay, replaced_as}
 use Rattle.stair_array.specs.Causes.{BearsOther, HadEnough, IsFree, IsSmall}
 use Rattle.stair_array.specs.Faults.{admission_fault, replace_refusal}
@@ -68,7 +68,7 @@ second_reads {j = j} ran =
 -- the slot is gone to its attach
 pub gone_at_attach : (g : Geometry) (slot : ℕ) (honest : Bool) (old new : List Happening) (bads bads' : ℕ) (gones gones' : ℕ → ℕ)
     → (IsTrue honest → Calls old new slot (Attach reply.Gone)) → NoneFalls bads bads' gones gones' → Rose (gones slot) (gones' slot)
-    → WasGoneToLook slot (telling honest old bads gones) (telling honest new bads' gones')
+    → WasGoneToLook slot (rack_state honest old bads gones) (rack_state honest new bads' gones')
 gone_at_attach g slot honest old new bads bads' gones gones' told counts rose = record {
   later = later_called honest old new bads bads' gones gones' slot (Attach reply.Gone) told counts;
   ran = λ is. look_ran tt (told is);
@@ -79,14 +79,14 @@ gone_at_attach g slot honest old new bads bads' gones gones' told counts rose = 
 module _ (g : Geometry) (slot : ℕ) (honest : Bool) (old att sec : List Happening) (b₀ b₁ b₂ : ℕ) (g₀ g₁ g₂ : ℕ → ℕ)
     (attached : IsTrue honest → Calls old att slot (Attach reply.Done)) (counts₁ : NoneFalls b₀ b₁ g₀ g₁) (has : ℕ)
     (measured : IsTrue honest → Calls att sec slot (Sectors has)) (counts₂ : NoneFalls b₁ b₂ g₁ g₂) where
-  abbrev at_old : Telling
-  at_old = telling honest old b₀ g₀
+  abbrev at_old : RackState
+  at_old = rack_state honest old b₀ g₀
 
-  abbrev at_mid : Telling
-  at_mid = telling honest att b₁ g₁
+  abbrev at_mid : RackState
+  at_mid = rack_state honest att b₁ g₁
 
-  abbrev at_sec : Telling
-  at_sec = telling honest sec b₂ g₂
+  abbrev at_sec : RackState
+  at_sec = rack_state honest sec b₂ g₂
 
   first : IsLater at_old at_mid
   first = later_called honest old att b₀ b₁ g₀ g₁ slot (Attach reply.Done) attached counts₁
@@ -103,7 +103,7 @@ module _ (g : Geometry) (slot : ℕ) (honest : Bool) (old att sec : List Happeni
 
   -- its device is small
   pub looked_small : (needs : ℕ) → needs ≡ sectors_needed g → has < sectors_needed g
-      → (mid : Telling) × WasLookedAt slot mid at_old at_sec × IsSmall g slot has needs mid at_sec
+      → (mid : RackState) × WasLookedAt slot mid at_old at_sec × IsSmall g slot has needs mid at_sec
   looked_small needs same small = (
     at_mid,
     record { first = first; attached = attached; later = second; ran = λ is. second_look tt tt (measured is) },
@@ -111,9 +111,9 @@ module _ (g : Geometry) (slot : ℕ) (honest : Bool) (old att sec : List Happeni
   )
 
   -- and its superblock places were read
-  module _ (new : List Happening) (b₃ : ℕ) (g₃ : ℕ → ℕ) (p : SlotProbe) (probes : ProbesSlot slot p at_sec (telling honest new b₃ g₃)) where
-    abbrev at_probe : Telling
-    at_probe = telling honest new b₃ g₃
+  module _ (new : List Happening) (b₃ : ℕ) (g₃ : ℕ → ℕ) (p : SlotProbe) (probes : ProbesSlot slot p at_sec (rack_state honest new b₃ g₃)) where
+    abbrev at_probe : RackState
+    at_probe = rack_state honest new b₃ g₃
 
     third : IsLater at_sec at_probe
     third = probe_later probes
@@ -195,7 +195,7 @@ module _ (g : Geometry) (slot : ℕ) (honest : Bool) (old att sec : List Happeni
         other = other;
       }
 
-      pub looked_other : IsOther g a ⊎ IsOther g b → (mid : Telling) × WasLookedAt slot mid at_old at_probe × BearsOther g slot mid at_probe
+      pub looked_other : IsOther g a ⊎ IsOther g b → (mid : RackState) × WasLookedAt slot mid at_old at_probe × BearsOther g slot mid at_probe
       looked_other either = (
         at_mid,
         looked,
@@ -230,17 +230,17 @@ writes_prepare g slot j c w =
 syncs_prepare : (g : Geometry) (slot j : ℕ) (c : SlotCall) → IsSyncOf (IsSlot slot) j c → IsPreparing g slot j c
 syncs_prepare g slot j c s = subst (IsPreparing g slot j) (sym s.is) s.on
 
-looks : (m : Membership) (slot : ℕ) (mid old new : Telling) → WasLookedAt slot mid old new → Looks slot mid (point m old) (point m new)
+looks : (m : Membership) (slot : ℕ) (mid old new : RackState) → WasLookedAt slot mid old new → Looks slot mid (snapshot m old) (snapshot m new)
 looks m slot mid old new was =
     record { member = refl; first = was.first; attached = was.attached; later = was.later; ran = was.ran }
 
 -- the slot of this member wasn't fit
-module _ (m : Membership) (slot : ℕ) (old new : Telling) where
+module _ (m : Membership) (slot : ℕ) (old new : RackState) where
   unfit : (why : ReplaceFault) → LooksAt m.array.geometry slot old new (Err why)
-      → PreparesSlot slot (Err (replace_refusal why)) (point m old) (point m new)
+      → PreparesSlot slot (Err (replace_refusal why)) (snapshot m old) (snapshot m new)
   unfit (fault.Gone at) told =
-      subst (λ (s : ℕ). PreparesSlot slot (Err (Gone s)) (point m old) (point m new)) (sym told.0)
-      (PreparesSlot.WasGone (point m old) (point m new)
+      subst (λ (s : ℕ). PreparesSlot slot (Err (Gone s)) (snapshot m old) (snapshot m new)) (sym told.0)
+      (PreparesSlot.WasGone (snapshot m old) (snapshot m new)
       (record {
         member = refl;
         later = told.1.later;
@@ -249,34 +249,34 @@ module _ (m : Membership) (slot : ℕ) (old new : Telling) where
       }) told.1.gone)
   unfit (fault.SmallDevice at has needs) told =
       let mid = told.1.0 in
-      subst (λ (s : ℕ). PreparesSlot slot (Err (SmallDevice s has needs)) (point m old) (point m new)) (sym told.0)
-      (PreparesSlot.WasSmall has needs told.1.0 (point m old) (point m new) (looks m slot told.1.0 old new told.1.1) told.1.2)
+      subst (λ (s : ℕ). PreparesSlot slot (Err (SmallDevice s has needs)) (snapshot m old) (snapshot m new)) (sym told.0)
+      (PreparesSlot.WasSmall has needs told.1.0 (snapshot m old) (snapshot m new) (looks m slot told.1.0 old new told.1.1) told.1.2)
   unfit (fault.AlreadyArray at) told =
-      subst (λ (s : ℕ). PreparesSlot slot (Err (AlreadyArray s)) (point m old) (point m new)) (sym told.0)
-      (PreparesSlot.WasOther told.1.0 (point m old) (point m new) (looks m slot told.1.0 old new told.1.1) told.1.2)
+      subst (λ (s : ℕ). PreparesSlot slot (Err (AlreadyArray s)) (snapshot m old) (snapshot m new)) (sym told.0)
+      (PreparesSlot.WasOther told.1.0 (snapshot m old) (snapshot m new) (looks m slot told.1.0 old new told.1.1) told.1.2)
   unfit (fault.OutOfRange asked limit) told = absurd told
   unfit (fault.SlotBusy at mark) told = absurd told
   unfit (fault.TooFew whys) told = absurd told
   unfit fault.EpochsSpent told = absurd told
 
   pub prepare_unfit : (g : Geometry) → g ≡ m.array.geometry → (why : ReplaceFault) (result : Result (Unit {0}) ReplaceFault)
-      → IsErrAnd result (λ e. e ≡ why) → LooksAt g slot old new (Err why) → PreparesSlot slot (replaced_as result) (point m old) (point m new)
+      → IsErrAnd result (λ e. e ≡ why) → LooksAt g slot old new (Err why) → PreparesSlot slot (replaced_as result) (snapshot m old) (snapshot m new)
   prepare_unfit g same why result is told =
-      subst (λ (r : Result (Unit {0}) Refusal). PreparesSlot slot r (point m old) (point m new)) (sym (handed_refusal result why is))
+      subst (λ (r : Result (Unit {0}) Refusal). PreparesSlot slot r (snapshot m old) (snapshot m new)) (sym (handed_refusal result why is))
       (unfit why (subst (λ (k : Geometry). LooksAt k slot old new (Err why)) same told))
 
 -- it was fit, and its journal was laid out
 module _ (m : Membership) (g : Geometry) (same : g ≡ m.array.geometry) (slot : ℕ) (places : Places) (honest : Bool) (old mid new : List Happening)
-    (b₀ b₁ b₂ : ℕ) (g₀ g₁ g₂ : ℕ → ℕ) (fit : WasFit g slot places (telling honest old b₀ g₀) (telling honest mid b₁ g₁)) (answer : Reply)
+    (b₀ b₁ b₂ : ℕ) (g₀ g₁ g₂ : ℕ → ℕ) (fit : WasFit g slot places (rack_state honest old b₀ g₀) (rack_state honest mid b₁ g₁)) (answer : Reply)
     (placed : IsTrue honest → Placed (new_journal g) (IsSlot slot) (IsGoneSlot slot answer) mid new) (counts : NoneFalls b₁ b₂ g₁ g₂) where
-  abbrev from_old : Telling
-  from_old = telling honest old b₀ g₀
+  abbrev from_old : RackState
+  from_old = rack_state honest old b₀ g₀
 
-  abbrev at_look : Telling
-  at_look = telling honest mid b₁ g₁
+  abbrev at_look : RackState
+  at_look = rack_state honest mid b₁ g₁
 
-  abbrev at_new : Telling
-  at_new = telling honest new b₂ g₂
+  abbrev at_new : RackState
+  at_new = rack_state honest new b₂ g₂
 
   laid : IsLater at_look at_new
   laid = record {
@@ -290,9 +290,9 @@ module _ (m : Membership) (g : Geometry) (same : g ≡ m.array.geometry) (slot :
   before : IsLater from_old at_look
   before = later_join fit.looked.first fit.looked.later
 
-  pub prepare_gone : answer ≡ reply.Gone → Rose (g₁ slot) (g₂ slot) → PreparesSlot slot (Err (Gone slot)) (point m from_old) (point m at_new)
+  pub prepare_gone : answer ≡ reply.Gone → Rose (g₁ slot) (g₂ slot) → PreparesSlot slot (Err (Gone slot)) (snapshot m from_old) (snapshot m at_new)
   prepare_gone gone rose =
-      PreparesSlot.WasGone (point m from_old) (point m at_new)
+      PreparesSlot.WasGone (snapshot m from_old) (snapshot m at_new)
       (record {
         member = refl;
         later = later_join before laid;
@@ -317,9 +317,9 @@ module _ (m : Membership) (g : Geometry) (same : g ≡ m.array.geometry) (slot :
           (ran_weakened {allowed = IsSyncOf (IsSlot slot)} {more = IsPreparing g slot} (syncs_prepare g slot) (placed is).syncs)))
 
   pub prepared : answer ≡ reply.Done → (seen : Membership) → Sees slot places.first places.second m seen → IsMembership seen
-      → PreparesSlot slot (Ok tt) (point m from_old) (point seen at_new)
+      → PreparesSlot slot (Ok tt) (snapshot m from_old) (snapshot seen at_new)
   prepared done seen sees rules =
-      PreparesSlot.Prepared places.first places.second fit.mid (point m from_old) (point m at_look) (point seen at_new)
+      PreparesSlot.Prepared places.first places.second fit.mid (snapshot m from_old) (snapshot m at_look) (snapshot seen at_new)
       (looks m slot fit.mid from_old at_look fit.looked)
       (subst (λ (k : Geometry). IsFit k slot places.first places.second fit.mid at_look) same fit.fit) laid
       (λ is.
@@ -339,23 +339,23 @@ admission_answer (Err e) why same = ap (λ (f : ReplaceFault). Err (replace_refu
     alike admit.EpochsSpent = refl
     alike (admit.Gone slot) = refl
 
-pub unprepared : (slot : ℕ) (x y : Point) (result : Result (Unit {0}) ReplaceFault) (why : ReplaceFault) → IsErrAnd result (λ e. e ≡ why)
+pub unprepared : (slot : ℕ) (x y : Snapshot) (result : Result (Unit {0}) ReplaceFault) (why : ReplaceFault) → IsErrAnd result (λ e. e ≡ why)
     → IsFree x.member slot → PreparesSlot slot (Err (replace_refusal why)) x y → Replaces slot (replaced_as result) x y
 unprepared slot x y result why is free prepares =
     subst (λ (r : Result (Unit {0}) Refusal). Replaces slot r x y) (sym (handed_refusal result why is))
     (Replaces.Unprepared (replace_refusal why) x y free prepares)
 
-pub admitted : (slot : ℕ) (x y z : Point) (answer : Result (Unit {0}) Refusal) → IsFree x.member slot → PreparesSlot slot (Ok tt) x y
+pub admitted : (slot : ℕ) (x y z : Snapshot) (answer : Result (Unit {0}) Refusal) → IsFree x.member slot → PreparesSlot slot (Ok tt) x y
     → AdmitsSlot slot answer y z → Replaces slot answer x z
 admitted slot x _ _ _ free prepares (AdmitsSlot.Joined given y z joins) = Replaces.Admitted given x y z free prepares joins
 
-pub unadmitted : (slot : ℕ) (x y z : Point) (why : AdmitFault) (result : Result (Unit {0}) ReplaceFault) → IsErrAnd result (λ e. e ≡ admission_fault why)
+pub unadmitted : (slot : ℕ) (x y z : Snapshot) (why : AdmitFault) (result : Result (Unit {0}) ReplaceFault) → IsErrAnd result (λ e. e ≡ admission_fault why)
     → IsFree x.member slot → PreparesSlot slot (Ok tt) x y → AdmitsSlot slot (admitted_as (Err why)) y z → Replaces slot (replaced_as result) x z
 unadmitted slot x y z why result is free prepares admits =
     rw (admission_answer result why is) (admitted slot x y z (admitted_as (Err why)) free prepares admits)
 
 -- what refuses a slot before its device is looked at
-pub not_free : (x : Point) (slot : ℕ) (why : ReplaceFault) (result : Result (Unit {0}) ReplaceFault) → IsErrAnd result (λ e. e ≡ why)
+pub not_free : (x : Snapshot) (slot : ℕ) (why : ReplaceFault) (result : Result (Unit {0}) ReplaceFault) → IsErrAnd result (λ e. e ≡ why)
     → IsNotFree x.member slot why → Replaces slot (replaced_as result) x x
 not_free x slot why result is not =
     subst (λ (r : Result (Unit {0}) Refusal). Replaces slot r x x) (sym (handed_refusal result why is)) (by why not)

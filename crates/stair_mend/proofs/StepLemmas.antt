@@ -10,16 +10,16 @@ use Rattle.stair_rack.specs.declared.rack.Reply.TheVariants as reply
 use Rattle.stair_super.specs.declared.configuration.Configuration.{Configuration}
 use Rattle.stair_member.specs.Establishing.{Joins, refusal_in}
 use Rattle.stair_member.specs.Membership.{IsHere, Membership, why_of}
-use Rattle.stair_member.specs.declared.aim.Aim.TheVariants.{Promote}
+use Rattle.stair_member.specs.declared.aim.EpochChange.TheVariants.{Promote}
 use Rattle.stair_member.specs.declared.fault.AdmitFault.{AdmitFault}
 use Rattle.stair_member.specs.declared.fault.AdmitFault.TheVariants as admit
 use Rattle.stair_member.specs.declared.fault.FenceFault.{FenceFault}
 use Rattle.stair_member.specs.declared.fault.FenceFault.TheVariants as fence
 use Rattle.stair_member.specs.declared.why.Why.{Why}
 use Rattle.stair_member.specs.declared.why.Why.TheVariants as why
-use Rattle.stair_session.specs.Courses.{Point, point}
-use Rattle.stair_session.specs.Rebuilding.{Rebuild}
-use Rattle.stair_session.specs.Session.{ArrayState, IsLiveIn, IsRebuiltIn}
+use Rattle.stair_invariant.specs.Effects.{Snapshot, snapshot}
+use Rattle.stair_invariant.specs.Rebuilding.{Rebuild}
+use Rattle.stair_invariant.specs.Session.{ArrayState, IsLiveIn, IsRebuiltIn}
 use Rattle.stair_array.specs.Arrays.{IsUnderWay}
 use Rattle.stair_array.specs.Calls.{LoadsStripe, refused}
 use Rattle.stair_array.specs.Causes.{IsNextChunk}
@@ -51,7 +51,7 @@ may_refuse : (fault : FenceFault) → MayRefuse (refused fault)
 may_refuse (fence.TooFew whys) = tt
 may_refuse fence.EpochsSpent = tt
 
-load_refusal : (t : ℕ) (into : Stripe) (answer : Result (Unit {0}) Refusal) (x y : Point) → LoadsStripe t into answer x y → (refusal : Refusal)
+load_refusal : (t : ℕ) (into : Stripe) (answer : Result (Unit {0}) Refusal) (x y : Snapshot) → LoadsStripe t into answer x y → (refusal : Refusal)
     → answer ≡ Err refusal → MayRefuse refusal
 load_refusal t into _ _ _ (LoadsStripe.Loaded was read gathered (Ok done) x y loads is) refusal same = absurd (cc)
 load_refusal t into _ _ _ (LoadsStripe.Loaded was read gathered (Err lost) x y loads is) refusal same =
@@ -62,7 +62,7 @@ load_refusal t into _ _ _ (LoadsStripe.Stops was read gathered fault x y loads) 
     subst MayRefuse alike (may_refuse fault)
 
 -- and so may a chunk that isn't written
-next_may : (j t : ℕ) (answer : Result Reply Refusal) (x y : Point) → WritesNext j t answer x y → (refusal : Refusal) → answer ≡ Err refusal
+next_may : (j t : ℕ) (answer : Result Reply Refusal) (x y : Snapshot) → WritesNext j t answer x y → (refusal : Refusal) → answer ≡ Err refusal
     → MayRefuse refusal
 next_may j t _ _ _ (WritesNext.Unread into why x y load) refusal same =
     let alike : why ≡ refusal = cc in
@@ -74,7 +74,7 @@ next_may j t _ _ _ (WritesNext.Fell into (Some fault) x y z w load rebuilt chunk
     subst MayRefuse alike (may_refuse fault)
 next_may j t _ _ _ (WritesNext.Wrote into x y z load rebuilt chunk) refusal same = absurd (cc)
 
-pub of_chunk : (j t : ℕ) (fault : ArrayFault) (x y : Point) → WritesNext j t (Err (refusal_for fault)) x y → IsOfLoading fault
+pub of_chunk : (j t : ℕ) (fault : ArrayFault) (x y : Snapshot) → WritesNext j t (Err (refusal_for fault)) x y → IsOfLoading fault
 of_chunk j t fault x y writes = by_fault fault (next_may j t (Err (refusal_for fault)) x y writes (refusal_for fault) refl)
   where
     by_fault : (f : ArrayFault) → MayRefuse (refusal_for f) → IsOfLoading f
@@ -85,13 +85,13 @@ of_chunk j t fault x y writes = by_fault fault (next_may j t (Err (refusal_for f
     by_fault (array.OutOfRange asked limit) may = absurd may
 
 -- a slot that was rebuilt, and isn't once a stripe was loaded, doesn't take part then
-loaded_back : (t : ℕ) (into : Stripe) (answer : Result (Unit {0}) Refusal) (x y : Point) → LoadsStripe t into answer x y → (j : ℕ)
+loaded_back : (t : ℕ) (into : Stripe) (answer : Result (Unit {0}) Refusal) (x y : Snapshot) → LoadsStripe t into answer x y → (j : ℕ)
     → answer ≡ Ok tt → IsLiveIn y.member j → IsLiveIn x.member j
 loaded_back t into _ _ _ (LoadsStripe.Loaded was read gathered answer x y loads is) j same live =
-    left_live gathered.gone (point x.member loads.mid) y j loads.leaves live
+    left_live gathered.gone (snapshot x.member loads.mid) y j loads.leaves live
 loaded_back t into _ _ _ (LoadsStripe.Stops was read gathered fault x y loads) j same live = absurd (cc)
 
-pub loaded_away : (t : ℕ) (into : Stripe) (x y : Point) → LoadsStripe t into (Ok tt) x y → (j : ℕ) → IsRebuiltIn x.member j
+pub loaded_away : (t : ℕ) (into : Stripe) (x y : Snapshot) → LoadsStripe t into (Ok tt) x y → (j : ℕ) → IsRebuiltIn x.member j
     → why_of y.member j ≢ why.Rebuilding → ¬ IsHere y.member j
 loaded_away t into x y loads j rebuilt other here =
     elim here.why [
@@ -102,7 +102,7 @@ loaded_away t into x y loads j rebuilt other here =
     ]
 
 -- and so does one that isn't rebuilt after its chunk
-next_gone : (j t : ℕ) (answer : Result Reply Refusal) (x y : Point) → WritesNext j t answer x y → (written : Reply) → answer ≡ Ok written
+next_gone : (j t : ℕ) (answer : Result Reply Refusal) (x y : Snapshot) → WritesNext j t answer x y → (written : Reply) → answer ≡ Ok written
     → IsRebuiltIn x.member j → why_of y.member j ≢ why.Rebuilding → ¬ IsHere y.member j
 next_gone j t _ _ _ (WritesNext.Unread into refusal x y load) written same rebuilt other = absurd (cc)
 next_gone j t _ _ _ (WritesNext.FellLoading into x y load fell) written same rebuilt other = loaded_away t into x y load j rebuilt other
@@ -152,7 +152,7 @@ under_next a j t some (IsNextChunk.First none lowest zero) = absurd (omega (arit
 
 -- The next chunk was slot j's of stripe t, and it was written or the slot was gone: what the step came to.
 module _ (was : ArrayState) (j t : ℕ) (next : IsNextChunk was j t) where
-  pub next_refused : (answer : Result Reply Refusal) (x y : Point) → WritesNext j t answer x y → t < x.member.array.geometry.stripes
+  pub next_refused : (answer : Result Reply Refusal) (x y : Snapshot) → WritesNext j t answer x y → t < x.member.array.geometry.stripes
       → (refusal : Refusal) → answer ≡ Err refusal → Rebuilds was (Err refusal) x y
   next_refused _ _ _ (WritesNext.Unread into why x y load) below refusal same =
       let alike : why ≡ refusal = cc in
@@ -164,7 +164,7 @@ module _ (was : ArrayState) (j t : ℕ) (next : IsNextChunk was j t) where
       subst (λ (r : Refusal). Rebuilds was (Err r) x w) alike (Rebuilds.Fell j t into (Some fault) x y z w next below load rebuilt chunk drops)
   next_refused _ _ _ (WritesNext.Wrote into x y z load rebuilt chunk) below refusal same = absurd (cc)
 
-  pub next_dropped : (answer : Result Reply Refusal) (x y : Point) → WritesNext j t answer x y → t < x.member.array.geometry.stripes
+  pub next_dropped : (answer : Result Reply Refusal) (x y : Snapshot) → WritesNext j t answer x y → t < x.member.array.geometry.stripes
       → answer ≡ Ok reply.Gone → Rebuilds was (Ok (Dropped j)) x y
   next_dropped _ _ _ (WritesNext.Unread into why x y load) below same = absurd (cc)
   next_dropped _ _ _ (WritesNext.FellLoading into x y load fell) below same = Rebuilds.FellLoading j t into x y next below load fell
@@ -173,7 +173,7 @@ module _ (was : ArrayState) (j t : ℕ) (next : IsNextChunk was j t) where
   next_dropped _ _ _ (WritesNext.Fell into (Some fault) x y z w load rebuilt chunk drops) below same = absurd (cc)
   next_dropped _ _ _ (WritesNext.Wrote into x y z load rebuilt chunk) below same = absurd (cc)
 
-  pub next_wrote : (answer : Result Reply Refusal) (x z : Point) → WritesNext j t answer x z → t + 1 < x.member.array.geometry.stripes
+  pub next_wrote : (answer : Result Reply Refusal) (x z : Snapshot) → WritesNext j t answer x z → t + 1 < x.member.array.geometry.stripes
       → answer ≡ Ok reply.Done → Rebuilds was (Ok (Chunk j t)) x z
   next_wrote _ _ _ (WritesNext.Unread into why x y load) more same = absurd (cc)
   next_wrote _ _ _ (WritesNext.FellLoading into x y load fell) more same = absurd (cc)
@@ -181,8 +181,8 @@ module _ (was : ArrayState) (j t : ℕ) (next : IsNextChunk was j t) where
   next_wrote _ _ _ (WritesNext.Fell into (Some fault) x y z w load rebuilt chunk drops) more same = absurd (cc)
   next_wrote _ _ _ (WritesNext.Wrote into x y z load rebuilt chunk) more same = Rebuilds.Wrote j t into x y z next more load rebuilt chunk
 
-  pub next_last : (answer : Result Reply Refusal) (x z : Point) → WritesNext j t answer x z → t + 1 ≡ x.member.array.geometry.stripes
-      → answer ≡ Ok reply.Done → (came : Result Came Refusal) (w : Point) → Promotes j came z w → Rebuilds was came x w
+  pub next_last : (answer : Result Reply Refusal) (x z : Snapshot) → WritesNext j t answer x z → t + 1 ≡ x.member.array.geometry.stripes
+      → answer ≡ Ok reply.Done → (came : Result Came Refusal) (w : Snapshot) → Promotes j came z w → Rebuilds was came x w
   next_last _ _ _ (WritesNext.Unread into why x y load) last same came w promotes = absurd (cc)
   next_last _ _ _ (WritesNext.FellLoading into x y load fell) last same came w promotes = absurd (cc)
   next_last _ _ _ (WritesNext.Fell into None x y z v load rebuilt chunk drops) last same came w promotes = absurd (cc)
@@ -246,7 +246,7 @@ module _ (was is : ArrayState) (j t : ℕ) (left : is.rebuild ≡ rebuild_past j
     all_written goes last = one_left goes ∙ ap (at_stripe j) (last ∙ ap (λ (g : Geometry). g.stripes) (sym same))
 
 -- and a slot that fell is dropped
-pub fallen_keeps : (was is : ArrayState) (j t : ℕ) (answer : Result Reply Refusal) (written : Reply) (x y : Point) → WritesNext j t answer x y
+pub fallen_keeps : (was is : ArrayState) (j t : ℕ) (answer : Result Reply Refusal) (written : Reply) (x y : Snapshot) → WritesNext j t answer x y
     → answer ≡ Ok written → x.member ≡ was.member → y.member ≡ is.member → IsRebuiltIn was.member j → why_of is.member j ≢ why.Rebuilding
     → is.rebuild ≡ None → KeepsRebuild RebuildNext (Ok (Dropped j)) was is
 fallen_keeps was is j t answer written x y writes same first last rebuilt other none = (
@@ -259,7 +259,7 @@ fallen_keeps was is j t answer written x y writes same first last rebuilt other 
 -- WHAT A PROMOTION LEAVES
 
 -- a slot that was promoted is live, and one that was gone doesn't take part
-module _ (j : ℕ) (given : Result Slots AdmitFault) (x y z : Point) (syncs : SyncsSlot j reply.Done x y)
+module _ (j : ℕ) (given : Result Slots AdmitFault) (x y z : Snapshot) (syncs : SyncsSlot j reply.Done x y)
     (joins : Joins (Promote j) j y.member z.member given y.told z.told) where
   joined_live : refusal_in given ≡ None → ¬ HasSlot joins.establishes.gone j → IsRebuiltIn x.member j → IsLiveIn z.member j
   joined_live fine kept rebuilt =
@@ -277,7 +277,7 @@ module _ (j : ℕ) (given : Result Slots AdmitFault) (x y z : Point) (syncs : Sy
         | inr rebuilt ↦ let never : why.Gone ≡ why.Rebuilding = sym gone ∙ rebuilt in absurd (cc)
       ]
 
-pub promoted_then : (j : ℕ) (answer : Answer RebuildNext) (x z : Point) → Promotes j answer x z → (last : Membership) (rebuild left : Option Rebuild)
+pub promoted_then : (j : ℕ) (answer : Answer RebuildNext) (x z : Snapshot) → Promotes j answer x z → (last : Membership) (rebuild left : Option Rebuild)
     → left ≡ None → left ≡ rebuild_then answer last rebuild
 promoted_then j _ _ _ (Promotes.Unsynced None x y z syncs drops) last rebuild left none = none
 promoted_then j _ _ _ (Promotes.Unsynced (Some (fence.TooFew whys)) x y z syncs drops) last rebuild left none = none
@@ -287,7 +287,7 @@ promoted_then j _ _ _ (Promotes.Joined (Err (admit.TooFew whys)) x y z syncs joi
 promoted_then j _ _ _ (Promotes.Joined (Err admit.EpochsSpent) x y z syncs joins) last rebuild left none = none
 promoted_then j _ _ _ (Promotes.Joined (Err (admit.Gone at)) x y z syncs joins) last rebuild left none = none
 
-pub promoted_keeps : (was is : ArrayState) (j t : ℕ) (answer : Answer RebuildNext) (x z : Point) → Promotes j answer x z → IsNextChunk was j t
+pub promoted_keeps : (was is : ArrayState) (j t : ℕ) (answer : Answer RebuildNext) (x z : Snapshot) → Promotes j answer x z → IsNextChunk was j t
     → was.member.array.geometry.stripes ≤ t + 1 → IsRebuiltIn x.member j → z.member ≡ is.member → is.rebuild ≡ None
     → KeepsRebuild RebuildNext answer was is
 promoted_keeps was is j t _ _ _ (Promotes.Unsynced None x y z syncs drops) next last rebuilt same none =

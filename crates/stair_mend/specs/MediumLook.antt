@@ -3,7 +3,7 @@ use Rattle.std.specs.Prelude.{◌≡◌, ◌≢◌, ◌<◌, ◌≤◌, ℕ, IsT
 use Rattle.stair_model.specs.Geometry.{Geometry}
 use Rattle.stair_rack.specs.Answers.{Calls, Ran}
 use Rattle.stair_rack.specs.History.{Attach}
-use Rattle.stair_rack.specs.Telling.{IsFoundGone, IsLater, Telling}
+use Rattle.stair_rack.specs.RackState.{IsFoundGone, IsLater, RackState}
 use Rattle.stair_rack.specs.declared.rack.Reply.TheVariants as reply
 use Rattle.stair_super.specs.Superblock.{Superblock, mark_in}
 use Rattle.stair_super.specs.declared.mark.Mark.TheVariants.{Down}
@@ -34,31 +34,31 @@ IsOwn g None = ⊤
 IsOwn g (Some s) = s.array.geometry ≡ g
 
 -- the slot was attached, once, and then looked at
-pub record WasLookedAt (slot : ℕ) (mid old new : Telling) : Type 0 where
+pub record WasLookedAt (slot : ℕ) (mid old new : RackState) : Type 0 where
   pub first : IsLater old mid
   pub attached : IsTrue mid.honest → Calls old.history mid.history slot (Attach reply.Done)
   pub later : IsLater mid new
   pub ran : IsTrue new.honest → Ran (IsSecondLook slot) mid.history new.history
 
 -- it was gone to a call, and nothing was written
-pub record WasGoneToLook (slot : ℕ) (old new : Telling) : Type 0 where
+pub record WasGoneToLook (slot : ℕ) (old new : RackState) : Type 0 where
   pub later : IsLater old new
   pub ran : IsTrue new.honest → Ran (IsLookAt slot) old.history new.history
   pub gone : IsFoundGone slot old new
 
 -- its device is fit to be admitted, and holds these superblocks
-pub record WasFit (g : Geometry) (slot : ℕ) (places : Places) (old new : Telling) : Type 0 where
-  pub mid : Telling
+pub record WasFit (g : Geometry) (slot : ℕ) (places : Places) (old new : RackState) : Type 0 where
+  pub mid : RackState
   pub looked : WasLookedAt slot mid old new
   pub fit : IsFit g slot places.first places.second mid new
   pub taken : IsTrue new.honest → IsTaken g slot old.history new.history
 
 -- what was found of the slot, or why its device isn't fit
-abbrev pub LooksAt : Geometry → ℕ → Telling → Telling → Result Places ReplaceFault → Type 0
+abbrev pub LooksAt : Geometry → ℕ → RackState → RackState → Result Places ReplaceFault → Type 0
 LooksAt g slot old new (Ok places) = WasFit g slot places old new
 LooksAt g slot old new (Err (fault.Gone at)) = (at ≡ slot) × WasGoneToLook slot old new
 LooksAt g slot old new (Err (fault.SmallDevice at has needs)) =
-    (at ≡ slot) × ((mid : Telling) × WasLookedAt slot mid old new × IsSmall g slot has needs mid new)
+    (at ≡ slot) × ((mid : RackState) × WasLookedAt slot mid old new × IsSmall g slot has needs mid new)
 LooksAt g slot old new (Err (fault.AlreadyArray at)) =
-    (at ≡ slot) × ((mid : Telling) × WasLookedAt slot mid old new × BearsOther g slot mid new)
+    (at ≡ slot) × ((mid : RackState) × WasLookedAt slot mid old new × BearsOther g slot mid new)
 LooksAt g slot old new (Err other) = ⊥

@@ -12,7 +12,7 @@ ghost use Rattle.std.specs.Prelude.{◌≡◌, ◌≤◌, Err, None, Some};
 ghost use Rattle.stair_rack.specs.RackCounts.{RisesAtMost};
 ghost use Rattle.stair_rack.specs.Told.{told};
 ghost use Rattle.stair_member.specs.declared.fault.FenceFault.{FenceFault as Fault};
-ghost use Rattle.stair_session.specs.Courses.{point};
+ghost use Rattle.stair_invariant.specs.Effects.{snapshot};
 ghost use Rattle.stair_array.specs.Arrays.{cells_of, outcome, rebuilt_as, replaced_as, state_of};
 ghost use Rattle.stair_array.specs.Faults.{array_fault, rebuild_fault, replace_fault};
 ghost use Rattle.stair_array.specs.Machine.{RebuildNext, ReplaceSlot, ScrubStripe};
@@ -37,9 +37,9 @@ pub fn scrub_step<R: Rack, C: StripeCode>(
     rack: &mut R,
     stripe: u32,
 ) -> Result<u16, ArrayFault>
-    ensures told { array.old.stopped ≡ None → Scrubs stripe (outcome result)
-        (point array.old.member (told R.Rack rack.old))
-        (point array.new.member (told R.Rack rack.new)) }
+    ensures does { array.old.stopped ≡ None → Scrubs stripe (outcome result)
+        (snapshot array.old.member (told R.Rack rack.old))
+        (snapshot array.new.member (told R.Rack rack.new)) }
     ensures kept { array.old.stopped ≡ None → Keeps (outcome result) array.new.stopped }
     ensures stopped { (fault : Fault) → array.old.stopped ≡ Some fault →
         (result ≡ Err (array_fault fault)) × (rack.new ≡ rack.old) × (array.new ≡ array.old) }
@@ -70,9 +70,9 @@ pub fn replace<R: Rack, C: StripeCode>(
     rack: &mut R,
     slot: u8,
 ) -> Result<(), ReplaceFault>
-    ensures told { array.old.stopped ≡ None → Replaces slot (replaced_as result)
-        (point array.old.member (told R.Rack rack.old))
-        (point array.new.member (told R.Rack rack.new)) }
+    ensures does { array.old.stopped ≡ None → Replaces slot (replaced_as result)
+        (snapshot array.old.member (told R.Rack rack.old))
+        (snapshot array.new.member (told R.Rack rack.new)) }
     ensures kept { array.old.stopped ≡ None → Keeps (replaced_as result) array.new.stopped }
     ensures stopped { (fault : Fault) → array.old.stopped ≡ Some fault →
         (result ≡ Err (replace_fault fault)) × (rack.new ≡ rack.old) × (array.new ≡ array.old) }
@@ -110,9 +110,9 @@ pub fn rebuild_step<R: Rack, C: StripeCode>(
     array: &mut Array<C>,
     rack: &mut R,
 ) -> Result<Progress, RebuildFault>
-    ensures told { array.old.stopped ≡ None → Rebuilds (state_of array.old) (rebuilt_as result)
-        (point array.old.member (told R.Rack rack.old))
-        (point array.new.member (told R.Rack rack.new)) }
+    ensures does { array.old.stopped ≡ None → Rebuilds (state_of array.old) (rebuilt_as result)
+        (snapshot array.old.member (told R.Rack rack.old))
+        (snapshot array.new.member (told R.Rack rack.new)) }
     ensures kept { array.old.stopped ≡ None → Keeps (rebuilt_as result) array.new.stopped }
     ensures stopped { (fault : Fault) → array.old.stopped ≡ Some fault →
         (result ≡ Err (rebuild_fault fault)) × (rack.new ≡ rack.old) × (array.new ≡ array.old) }

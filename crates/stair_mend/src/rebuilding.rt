@@ -1,7 +1,7 @@
 // The parts of a step of a rebuild.
 ghost use Rattle.std.specs.Prelude.{◌≡◌, ◌<◌, MatchBool, None, Some};
 ghost use Rattle.stair_rack.specs.Told.{told};
-ghost use Rattle.stair_session.specs.Courses.{point};
+ghost use Rattle.stair_invariant.specs.Effects.{snapshot};
 ghost use Rattle.stair_array.specs.Arrays.{rebuilt_as, state_of};
 ghost use Rattle.stair_array.specs.Causes.{IsNextChunk};
 ghost use Rattle.stair_array.specs.Faults.{IsOfLoading, rebuild_refusal, refusal_for};
@@ -39,8 +39,8 @@ pub(crate) fn promote<R: Rack, C: StripeCode>(
     requires written { array.old.rebuild ≡
         Some (record { slot = slot; stripe = array.old.member.array.geometry.stripes }) }
     requires going { array.old.stopped ≡ None }
-    ensures told { Promotes slot (rebuilt_as result) (point array.old.member (told R.Rack rack.old))
-        (point array.new.member (told R.Rack rack.new)) }
+    ensures does { Promotes slot (rebuilt_as result) (snapshot array.old.member (told R.Rack rack.old))
+        (snapshot array.new.member (told R.Rack rack.new)) }
     ensures kept { Keeps (rebuilt_as result) array.new.stopped }
     ensures rebuild { array.new.rebuild ≡ None }
     ensures remembers { array.new.remembered ≡ None }

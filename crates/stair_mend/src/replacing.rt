@@ -7,7 +7,7 @@ ghost use Rattle.stair_rack.specs.RackCounts.{NoneFalls, RisesAtMost};
 ghost use Rattle.stair_rack.specs.Told.{told};
 ghost use Rattle.stair_rack.specs.Writing.{IsOnSlot, Writing};
 ghost use Rattle.stair_super.specs.Superblock.{Superblock};
-ghost use Rattle.stair_session.specs.Courses.{point};
+ghost use Rattle.stair_invariant.specs.Effects.{snapshot};
 ghost use Rattle.stair_array.specs.Arrays.{replaced_as};
 ghost use Rattle.stair_array.specs.Causes.{IsFree};
 ghost use Rattle.stair_array.specs.MendingSteps.{IsBodyOf};
@@ -58,9 +58,9 @@ pub(crate) fn prepare_slot<R: Rack, C: StripeCode>(
 ) -> Result<(), ReplaceFault>
     requires free { IsFree array.old.member slot }
     requires going { array.old.stopped ≡ None }
-    ensures told { PreparesSlot slot (replaced_as result)
-        (point array.old.member (told R.Rack rack.old))
-        (point array.new.member (told R.Rack rack.new)) }
+    ensures does { PreparesSlot slot (replaced_as result)
+        (snapshot array.old.member (told R.Rack rack.old))
+        (snapshot array.new.member (told R.Rack rack.new)) }
     ensures array { array.new.member.array ≡ array.old.member.array }
     ensures kept { Keeps (replaced_as result) array.new.stopped }
     ensures going { array.new.stopped ≡ None }
@@ -83,7 +83,7 @@ pub(crate) fn prepare_slot<R: Rack, C: StripeCode>(
 // since a device that is gone can't be told to be of another array.
 fn look_for<R: Rack>(rack: &mut R, geometry: &Geometry, slot: u8) -> Result<Places, ReplaceFault>
     requires { slot < 32 }
-    ensures told { LooksAt geometry.now slot (told R.Rack rack.old) (told R.Rack rack.new) result }
+    ensures does { LooksAt geometry.now slot (told R.Rack rack.old) (told R.Rack rack.new) result }
     ensures reads { RisesAtMost 2 (R.reads rack.old) (R.reads rack.new) }
 {
     if rack.attach(slot) == Reply::Gone {
@@ -122,7 +122,7 @@ fn is_other(held: &Option<Super>, geometry: &Geometry) -> bool
 // Writes a closed gate to the slot and zeros for the body of a redo, up to the first sector that is gone, and syncs it.
 fn lay_out_journal<R: Rack>(rack: &mut R, geometry: &Geometry, slot: u8) -> Reply
     requires { slot < 32 }
-    ensures told { IsTrue R.is_honest →
+    ensures does { IsTrue R.is_honest →
         Placed (new_journal geometry.now) (IsSlot slot) (IsGoneSlot slot result)
         (R.history rack.old) (R.history rack.new) }
     ensures gone { result ≡ Reply.Gone → Rose (R.gones rack.old slot) (R.gones rack.new slot) }
@@ -139,7 +139,7 @@ fn lay_out_journal<R: Rack>(rack: &mut R, geometry: &Geometry, slot: u8) -> Repl
 // Writes them, and syncs nothing.
 fn write_journal<R: Rack>(rack: &mut R, geometry: &Geometry, slot: u8) -> Reply
     requires { slot < 32 }
-    ensures told { IsTrue R.is_honest →
+    ensures does { IsTrue R.is_honest →
         Writing (new_journal geometry.now) (IsSlot slot) (IsGoneSlot slot result) (IsOnSlot slot)
         (R.history rack.old) (R.history rack.new) }
     ensures gone { result ≡ Reply.Gone → Rose (R.gones rack.old slot) (R.gones rack.new slot) }
@@ -156,7 +156,7 @@ fn write_journal<R: Rack>(rack: &mut R, geometry: &Geometry, slot: u8) -> Reply
 // Writes the zeros.
 fn clear_body<R: Rack>(rack: &mut R, geometry: &Geometry, slot: u8) -> Reply
     requires { slot < 32 }
-    ensures told { IsTrue R.is_honest →
+    ensures does { IsTrue R.is_honest →
         Writing (new_journal geometry.now) (IsSlot slot) (IsGoneSlot slot result) (IsBodyOf slot)
         (R.history rack.old) (R.history rack.new) }
     ensures gone { result ≡ Reply.Gone → Rose (R.gones rack.old slot) (R.gones rack.new slot) }

@@ -8,16 +8,16 @@ use Rattle.std.proofs.lemmas.List.{take_all}
 use Rattle.std.proofs.lemmas.List.Elements.{All-append, All-cons, All-head, All-nil, All-tail}
 use Rattle.stair_rack.specs.declared.watcher.Event.{Event}
 use Rattle.stair_script.specs.Events.{SpellsEvent}
-use Rattle.stair_story.proofs.PlanLaws.{and_then, cannot_put, leads_then, puts}
-use Rattle.stair_story.specs.Means.{Counts, Gives, Holds, Means}
-use Rattle.stair_story.specs.Outside.{SinkView, SourceView, Views, outside}
-use Rattle.stair_story.specs.Plan.{Plan, Over, Put, if_so}
-use Rattle.stair_story.specs.Question.{EventLine}
-use Rattle.stair_story.specs.Story.{Deed, Found, Took, TookLast, TakeFailed, Leads, Moves}
-use Rattle.stair_story.specs.Texts.{SCRIPT_LIMIT, TakesByte, ends_line, last_of}
+use Rattle.stair_command.proofs.ProgramLaws.{and_then, cannot_put, leads_then, puts}
+use Rattle.stair_command.specs.Executes.{Counts, Gives, Holds, Executes}
+use Rattle.stair_command.specs.Outside.{SinkView, SourceView, Views, outside}
+use Rattle.stair_command.specs.Program.{Program, Over, Put, if_so}
+use Rattle.stair_command.specs.Question.{EventLine}
+use Rattle.stair_command.specs.Trace.{TraceItem, Found, Took, TookLast, TakeFailed, AlongTrace, StepsProgram}
+use Rattle.stair_command.specs.Texts.{SCRIPT_LIMIT, TakesByte, ends_line, last_of}
 use Rattle.stair_status.specs.declared.status.Status.TheVariants.{BadLine, Done, Input, InputFault, OutputFault}
 use Rattle.stair_watch.specs.Lines.{PutsFront}
-use Rattle.stair_monitor.specs.Reports.{EVENT_LIMIT, event_taken, report_over, report_plan, report_text, reports, status_of, status_of_report}
+use Rattle.stair_monitor.specs.Reports.{EVENT_LIMIT, event_taken, report_over, report_program, report_text, reports, status_of, status_of_report}
 use Rattle.stair_monitor.specs.Seen.{FailsByte, IsEventOf, IsReading, Reads, ReadsText, SeesLast, Tells}
 use Rattle.stair_monitor.specs.declared.reporting.ReportFault.{ReportFault}
 use Rattle.stair_monitor.specs.declared.reporting.ReportFault.TheVariants as fault
@@ -26,45 +26,45 @@ use Rattle.stair_monitor.specs.declared.reporting.Seen.{Seen}
 -- ---- what is read, one part after the other
 
 module _ {S : Type 0} (view : SourceView S) where
-  reads_none : (plan : Plan) (a : S) → Reads view plan plan a a
-  reads_none plan a = record { story = []; reading = All-nil IsReading; follows = refl; gives = refl }
+  reads_none : (program : Program) (a : S) → Reads view program program a a
+  reads_none program a = record { trace = []; reading = All-nil IsReading; follows = refl; gives = refl }
 
-  reads_one : (deed : Deed) (plan rest : Plan) (a b : S) → IsReading deed → Moves deed plan rest → Gives view deed a b → Reads view plan rest a b
-  reads_one deed plan rest a b reading moves gives = record {
-    story = deed ∷ [];
-    reading = All-cons IsReading deed [] reading (All-nil IsReading);
+  reads_one : (item : TraceItem) (program rest : Program) (a b : S) → IsReading item → StepsProgram item program rest → Gives view item a b → Reads view program rest a b
+  reads_one item program rest a b reading moves gives = record {
+    trace = item ∷ [];
+    reading = All-cons IsReading item [] reading (All-nil IsReading);
     follows = (rest, moves, refl);
     gives = (b, gives, refl);
   }
 
-  reads_then : {plan mid rest : Plan} {a b c : S} → Reads view plan mid a b → Reads view mid rest b c → Reads view plan rest a c
-  reads_then {plan} {mid} {rest} {a} {b} {c} first later = record {
-    story = first.story ++ later.story;
-    reading = All-append IsReading first.story later.story first.reading later.reading;
-    follows = leads_then Moves first.story later.story plan mid rest first.follows later.follows;
-    gives = leads_then (Gives view) first.story later.story a b c first.gives later.gives;
+  reads_then : {program mid rest : Program} {a b c : S} → Reads view program mid a b → Reads view mid rest b c → Reads view program rest a c
+  reads_then {program} {mid} {rest} {a} {b} {c} first later = record {
+    trace = first.trace ++ later.trace;
+    reading = All-append IsReading first.trace later.trace first.reading later.reading;
+    follows = leads_then StepsProgram first.trace later.trace program mid rest first.follows later.follows;
+    gives = leads_then (Gives view) first.trace later.trace a b c first.gives later.gives;
   }
 
 -- ---- it leaves the sink and the counter
 
-reading_holds : {K : Type 0} (view : SinkView K) (story : List Deed) (sink : K) → All IsReading story → Leads (Holds view) story sink sink
+reading_holds : {K : Type 0} (view : SinkView K) (trace : List TraceItem) (sink : K) → All IsReading trace → AlongTrace (Holds view) trace sink sink
 reading_holds view [] sink reading = refl
-reading_holds view (deed ∷ story) sink reading =
-    (sink, one deed (All-head IsReading deed story reading), reading_holds view story sink (All-tail IsReading deed story reading))
+reading_holds view (item ∷ trace) sink reading =
+    (sink, one item (All-head IsReading item trace reading), reading_holds view trace sink (All-tail IsReading item trace reading))
   where
-    one : (deed : Deed) → IsReading deed → Holds view deed sink sink
+    one : (item : TraceItem) → IsReading item → Holds view item sink sink
     one (Found (EventLine line)) is = refl
     one (Took bytes) is = refl
     one (TookLast bytes) is = refl
     one (TakeFailed bytes) is = refl
     one _ is = absurd is
 
-reading_counts : (story : List Deed) (counter : ℕ) → All IsReading story → Leads Counts story counter counter
+reading_counts : (trace : List TraceItem) (counter : ℕ) → All IsReading trace → AlongTrace Counts trace counter counter
 reading_counts [] counter reading = refl
-reading_counts (deed ∷ story) counter reading =
-    (counter, one deed (All-head IsReading deed story reading), reading_counts story counter (All-tail IsReading deed story reading))
+reading_counts (item ∷ trace) counter reading =
+    (counter, one item (All-head IsReading item trace reading), reading_counts trace counter (All-tail IsReading item trace reading))
   where
-    one : (deed : Deed) → IsReading deed → Counts deed counter counter
+    one : (item : TraceItem) → IsReading item → Counts item counter counter
     one (Found (EventLine line)) is = refl
     one (Took bytes) is = refl
     one (TookLast bytes) is = refl
@@ -72,15 +72,15 @@ reading_counts (deed ∷ story) counter reading =
     one _ is = absurd is
 
 module _ {S K : Type 0} (view : Views S K) where
-  means_read : {plan rest : Plan} {a b : S} → Reads view.source plan rest a b → (held : K) (counter : ℕ)
-      → Means view plan rest (outside a held counter) (outside b held counter)
+  means_read : {program rest : Program} {a b : S} → Reads view.source program rest a b → (held : K) (counter : ℕ)
+      → Executes view program rest (outside a held counter) (outside b held counter)
   means_read reads held counter = record {
-    story = reads.story;
+    trace = reads.trace;
     follows = reads.follows;
     bears = record {
       gives = reads.gives;
-      holds = reading_holds view.sink reads.story held reads.reading;
-      counts = reading_counts reads.story counter reads.reading;
+      holds = reading_holds view.sink reads.trace held reads.reading;
+      counts = reading_counts reads.trace counter reads.reading;
     };
   }
 
@@ -89,23 +89,23 @@ module _ {S K : Type 0} (view : Views S K) where
   -- the text was refused
   pub report_refused : (result : Result (Unit {0}) ReportFault) (why : ReportFault) → IsErrAnd result (λ y. y ≡ why)
       → (a b : S) → ReadsText view.source (Err why) a b → (held : K) (counter : ℕ)
-      → Means view report_plan (Over (status_of result)) (outside a held counter) (outside b held counter)
+      → Executes view report_program (Over (status_of result)) (outside a held counter) (outside b held counter)
   report_refused (Ok done) why is a b reads held counter = absurd is
   report_refused (Err y) why is a b reads held counter =
-      subst (λ (f : ReportFault). Means view report_plan (Over (status_of_report f)) (outside a held counter) (outside b held counter)) (sym is)
+      subst (λ (f : ReportFault). Executes view report_program (Over (status_of_report f)) (outside a held counter) (outside b held counter)) (sym is)
       (means_read reads held counter)
 
   module _ (seen : Seen) (a b : S) (read : ReadsText view.source (Ok seen) a b) (text : List ℕ)
       (is : (events : List Event) → Tells events seen → text ≡ report_text events) (count : ℕ) (held later : K)
       (put : PutsFront view.sink.held view.sink.faults count text held later) (counter : ℕ) where
     -- what is put out then
-    told : Means view report_plan (Put text (Over Done)) (outside a held counter) (outside b held counter)
+    told : Executes view report_program (Put text (Over Done)) (outside a held counter) (outside b held counter)
     told =
-        subst (λ (bytes : List ℕ). Means view report_plan (Put bytes (Over Done)) (outside a held counter) (outside b held counter))
+        subst (λ (bytes : List ℕ). Executes view report_program (Put bytes (Over Done)) (outside a held counter) (outside b held counter))
         (sym (is read.events read.tells)) (means_read read.reads held counter)
 
     -- all of it
-    pub report_done : length text ≤ count → Means view report_plan (Over Done) (outside a held counter) (outside b later counter)
+    pub report_done : length text ≤ count → Executes view report_program (Over Done) (outside a held counter) (outside b later counter)
     report_done all =
         let whole : take count text ≡ text = take_all count text all in
         and_then view told
@@ -113,7 +113,7 @@ module _ {S K : Type 0} (view : Views S K) where
         (subst (λ (front : List ℕ). Appends (view.sink.held held) (view.sink.held later) front) whole put.grows, put.rises))
 
     -- or a part
-    pub report_cut : count < length text → Means view report_plan (Over OutputFault) (outside a held counter) (outside b later counter)
+    pub report_cut : count < length text → Executes view report_program (Over OutputFault) (outside a held counter) (outside b later counter)
     report_cut some =
         and_then view told
         (cannot_put view text (take count text) (Over Done) b held later counter
@@ -122,7 +122,7 @@ module _ {S K : Type 0} (view : Views S K) where
 
 -- ---- a line
 
-module _ {S : Type 0} (view : SourceView S) (number : ℕ) (line : List ℕ) (events : List Event) (rest : List Event → Plan) (a : S) where
+module _ {S : Type 0} (view : SourceView S) (number : ℕ) (line : List ℕ) (events : List Event) (rest : List Event → Program) (a : S) where
   -- it tells an event
   line_tells : (said : Event) → SpellsEvent line said → Reads view (event_taken number line events rest) (rest (said ∷ events)) a a
   line_tells said spells =
@@ -142,7 +142,7 @@ some_last number (byte ∷ line) events some = refl
 -- ---- byte by byte
 
 -- after a byte
-abbrev byte_on : (room number : ℕ) (line : List ℕ) → List Event → List ℕ → Plan
+abbrev byte_on : (room number : ℕ) (line : List ℕ) → List Event → List ℕ → Program
 byte_on room number line events byte =
     if_so (ends_line byte) (event_taken number line events (reports room (number + 1) []))
     (if_so (nat_lt (length line) EVENT_LIMIT) (reports room number (line ++ byte) events) (Over (BadLine number)))
@@ -162,7 +162,7 @@ module _ {S : Type 0} (view : SourceView S) where
       pub few : length events ≤ taken
       pub numbered : number ≤ taken + 1
       pub short : length line ≤ EVENT_LIMIT
-      pub reads : Reads view report_plan (reports (SCRIPT_LIMIT - taken) number line events) from left
+      pub reads : Reads view report_program (reports (SCRIPT_LIMIT - taken) number line events) from left
 
     pub saw_none : (line : List ℕ) (seen : Seen) → line ≡ [] → Tells [] seen → SawSoFar 0 1 line seen from
     saw_none line seen fresh tells = record {
@@ -171,15 +171,15 @@ module _ {S : Type 0} (view : SourceView S) where
       few = omega arith;
       numbered = omega arith;
       short = omega (arith, ap length fresh);
-      reads = subst (λ (bytes : List ℕ). Reads view report_plan (reports (SCRIPT_LIMIT - 0) 1 bytes []) from from) (sym fresh) (reads_none view report_plan from);
+      reads = subst (λ (bytes : List ℕ). Reads view report_program (reports (SCRIPT_LIMIT - 0) 1 bytes []) from from) (sym fresh) (reads_none view report_program from);
     }
 
     module _ (taken number : ℕ) (line : List ℕ) (seen : Seen) (left later : S) (so_far : SawSoFar taken number line seen left) where
       abbrev events : List Event
       events = so_far.events
 
-      abbrev Comes : Plan → Type 0
-      Comes plan = Reads view report_plan plan from later
+      abbrev Comes : Program → Type 0
+      Comes program = Reads view report_program program from later
 
       -- the source failed
       pub byte_failed : (why : ReportFault) → FailsByte view why left later → Comes (Over (status_of_report why))
@@ -235,7 +235,7 @@ module _ {S : Type 0} (view : SourceView S) where
       too_long past byte gives =
           let none : SCRIPT_LIMIT - taken ≡ 0 = omega (arith, past) in
           reads_then view
-          (subst (λ (room : ℕ). Reads view report_plan (reports room number line events) from left) none so_far.reads)
+          (subst (λ (room : ℕ). Reads view report_program (reports room number line events) from left) none so_far.reads)
           (reads_one view (Took (byte ∷ [])) (reports 0 number line events) (Over (Input SCRIPT_LIMIT (SCRIPT_LIMIT + 1))) left later tt
           (record { enough = omega arith; within = omega arith }, refl) gives)
 
@@ -246,7 +246,7 @@ module _ {S : Type 0} (view : SourceView S) where
             let room = SCRIPT_LIMIT - (taken + 1) in
             let more : SCRIPT_LIMIT - taken ≡ suc room = omega (arith, below) in
             reads_then view
-            (subst (λ (all : ℕ). Reads view report_plan (reports all number line events) from left) more so_far.reads)
+            (subst (λ (all : ℕ). Reads view report_program (reports all number line events) from left) more so_far.reads)
             (reads_one view (Took (byte ∷ [])) (reports (suc room) number line events) (byte_on room number line events (byte ∷ [])) left later tt
             (record { enough = omega arith; within = omega arith }, refl) gives)
 

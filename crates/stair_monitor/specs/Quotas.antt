@@ -2,7 +2,7 @@
 use Rattle.std.proofs.Common.{arith}
 use Rattle.std.proofs.lemmas.Bool.Decides.{nat_tests}
 use Rattle.std.specs.Prelude.{◌≡◌, ◌-◌, ◌^◌, ◌||◌, ℕ, Bool, false, [], None, Some, nat_le}
-use Rattle.stair_rack.specs.Watching.{IsPatient, Patience, WatcherView, watcher_view}
+use Rattle.stair_rack.specs.Watching.{IsPatient, RemainingQuota, WatcherView, watcher_view}
 use Rattle.stair_rack.specs.declared.watcher.Counts.{Counts}
 use Rattle.stair_rack.specs.declared.watcher.EventKind.{EventKind}
 use Rattle.stair_watch.specs.Watchers.{count_in, sum_in}
@@ -19,15 +19,15 @@ abbrev pub quota_left : {K : Type 0} → QuotaState K → Bool
 quota_left q = nat_le q.limit (count_in q.counts q.kind) || nat_le (2 ^ 64 - 1) (sum_in q.counts)
 
 -- so many events of all kinds are waited for, and so many of its kind
-abbrev pub quota_patience : {K : Type 0} → QuotaState K → Patience
-quota_patience q = record {
+abbrev pub quota_remaining : {K : Type 0} → QuotaState K → RemainingQuota
+quota_remaining q = record {
   all = 2 ^ 64 - 1 - sum_in q.counts;
   kind = Some (q.kind, q.limit - count_in q.counts q.kind);
 }
 
 -- one that hasn't left waits for an event more of its kind at least
-pub quota_waits : {K : Type 0} (q : QuotaState K) → quota_left q ≡ false → IsPatient [] (quota_patience q)
+pub quota_waits : {K : Type 0} (q : QuotaState K) → quota_left q ≡ false → IsPatient [] (quota_remaining q)
 quota_waits q stays = (grind (arith, nat_tests), grind (arith, nat_tests))
 
 abbrev pub quota_view : {K : Type 0} → WatcherView (QuotaState K)
-quota_view = watcher_view (λ q. None) (λ q. count_in q.counts) quota_left (λ q. Some (quota_patience q))
+quota_view = watcher_view (λ q. None) (λ q. count_in q.counts) quota_left (λ q. Some (quota_remaining q))

@@ -7,9 +7,9 @@ use Rattle.stair_rack.specs.Watching.{count_of}
 use Rattle.stair_rack.specs.declared.watcher.Event.{Event}
 use Rattle.stair_rack.specs.declared.watcher.Event.TheVariants as event
 use Rattle.stair_rack.specs.declared.watcher.EventKind.TheVariants.{Fenced, Repaired, Admitted, Promoted}
-use Rattle.stair_story.specs.Plan.{Plan, Over, Ask, Put}
-use Rattle.stair_story.specs.Question.{EventLine}
-use Rattle.stair_story.specs.Texts.{LineDoes, SCRIPT_LIMIT, by_lines}
+use Rattle.stair_command.specs.Program.{Program, Over, Ask, Put}
+use Rattle.stair_command.specs.Question.{EventLine}
+use Rattle.stair_command.specs.Texts.{LineDoes, SCRIPT_LIMIT, by_lines}
 use Rattle.stair_status.specs.declared.status.Status.{Status}
 use Rattle.stair_status.specs.declared.status.Status.TheVariants.{BadLine, Done, Input, InputFault, OutputFault}
 use Rattle.stair_watch.specs.Lines.{newline}
@@ -51,23 +51,23 @@ abbrev pub EVENT_LIMIT : ℕ
 EVENT_LIMIT = 64
 
 -- The rest takes the events that came so far, the last of them first. The report ends at a line that tells none.
-abbrev pub if_event : (number : ℕ) → List Event → (List Event → Plan) → Option Event → Plan
+abbrev pub if_event : (number : ℕ) → List Event → (List Event → Program) → Option Event → Program
 if_event number events rest None = Over (BadLine number)
 if_event number events rest (Some said) = rest (said ∷ events)
 
 abbrev pub event_taken : LineDoes (List Event)
 event_taken number line events rest = Ask (EventLine line) (if_event number events rest)
 
-abbrev pub report_over : List Event → Plan
+abbrev pub report_over : List Event → Program
 report_over events = Put (report_text events) (Over Done)
 
 -- what is left of a text of at most so many bytes more, of whose line of this number these bytes came, after these events
-abbrev pub reports : (room number : ℕ) → List ℕ → List Event → Plan
+abbrev pub reports : (room number : ℕ) → List ℕ → List Event → Program
 reports room number line events =
     by_lines EVENT_LIMIT event_taken report_over room number line events
 
-abbrev pub report_plan : Plan
-report_plan = reports SCRIPT_LIMIT 1 [] []
+abbrev pub report_program : Program
+report_program = reports SCRIPT_LIMIT 1 [] []
 
 -- the status of a report that was refused, or done
 abbrev pub status_of_report : ReportFault → Status

@@ -3,17 +3,17 @@ use Rattle.std.specs.Prelude.{◌≡◌, ◌⊎◌, ◌<◌, ◌^◌, ℕ, List,
 use Rattle.stair_monitor.specs.declared.reporting.ReportFault.{ReportFault}
 use Rattle.stair_monitor.specs.declared.reporting.ReportFault.TheVariants as fault
 use Rattle.stair_monitor.specs.declared.reporting.Seen.{Seen}
-use Rattle.stair_monitor.specs.Reports.{fences_of, report_over, report_plan, status_of_report}
+use Rattle.stair_monitor.specs.Reports.{fences_of, report_over, report_program, status_of_report}
 use Rattle.stair_rack.specs.Watching.{count_of}
 use Rattle.stair_rack.specs.declared.watcher.Counts.{Counts}
 use Rattle.stair_rack.specs.declared.watcher.Event.{Event}
 use Rattle.stair_rack.specs.declared.watcher.EventKind.{EventKind}
 use Rattle.stair_script.specs.Events.{SpellsEvent}
-use Rattle.stair_story.specs.Means.{Gives}
-use Rattle.stair_story.specs.Outside.{SourceView}
-use Rattle.stair_story.specs.Plan.{Plan, Over}
-use Rattle.stair_story.specs.Question.{EventLine}
-use Rattle.stair_story.specs.Story.{Deed, Found, Took, TookLast, TakeFailed, Leads, Moves}
+use Rattle.stair_command.specs.Executes.{Gives}
+use Rattle.stair_command.specs.Outside.{SourceView}
+use Rattle.stair_command.specs.Program.{Program, Over}
+use Rattle.stair_command.specs.Question.{EventLine}
+use Rattle.stair_command.specs.Trace.{TraceItem, Found, Took, TookLast, TakeFailed, AlongTrace, StepsProgram}
 use Rattle.stair_watch.specs.Watchers.{count_in}
 
 -- the counts are those of these events
@@ -54,27 +54,27 @@ pub record FailsByte {S : Type 0} (view : SourceView S) (why : ReportFault) (old
   pub gives : Gives view (TakeFailed []) old new
 
 -- it takes from a source, or finds what a line tells
-abbrev pub IsReading : Deed → Type 0
+abbrev pub IsReading : TraceItem → Type 0
 IsReading (Found (EventLine line)) = ⊤
 IsReading (Took bytes) = ⊤
 IsReading (TookLast bytes) = ⊤
 IsReading (TakeFailed bytes) = ⊤
 IsReading _ = ⊥
 
--- from this plan to that rest by reading alone, so that it is so beside any sink
-pub record Reads {S : Type 0} (view : SourceView S) (plan rest : Plan) (old new : S) : Type 0 where
-  pub story : List Deed
-  pub reading : All IsReading story
-  pub follows : Leads Moves story plan rest
-  pub gives : Leads (Gives view) story old new
+-- from this program to that rest by reading alone, so that it is so beside any sink
+pub record Reads {S : Type 0} (view : SourceView S) (program rest : Program) (old new : S) : Type 0 where
+  pub trace : List TraceItem
+  pub reading : All IsReading trace
+  pub follows : AlongTrace StepsProgram trace program rest
+  pub gives : AlongTrace (Gives view) trace old new
 
 -- all of the text was taken, whose lines tell these events
 pub record SawAll {S : Type 0} (view : SourceView S) (seen : Seen) (old new : S) : Type 0 where
   pub events : List Event
   pub tells : Tells events seen
-  pub reads : Reads view report_plan (report_over events) old new
+  pub reads : Reads view report_program (report_over events) old new
 
 -- or it was refused
 abbrev pub ReadsText : {S : Type 0} → SourceView S → Result Seen ReportFault → S → S → Type 0
 ReadsText view (Ok seen) old new = SawAll view seen old new
-ReadsText view (Err why) old new = Reads view report_plan (Over (status_of_report why)) old new
+ReadsText view (Err why) old new = Reads view report_program (Over (status_of_report why)) old new

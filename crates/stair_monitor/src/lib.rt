@@ -10,7 +10,7 @@ mod quota;
 mod reading;
 mod reporting;
 
-pub use printing::{TEXT_LIMIT, print_event};
+pub use printing::{MAX_EVENT_LINE, print_event};
 pub use quota::Quota;
 pub use reading::read_event;
 pub use reporting::{ReportFault, report};

@@ -5,14 +5,14 @@ use stair_rack::Event;
 use stair_watch::Line;
 
 /// Room for the line of an event, which has at most 37 bytes.
-pub const TEXT_LIMIT: usize = 64;
+pub const MAX_EVENT_LINE: usize = 64;
 
 /// Prints the line of an event, without its end, at the front of the room, and tells how many bytes it has. What stands after
 /// it stays as it was. It takes no memory.
-pub fn print_event(event: Event, into: &mut [u8; TEXT_LIMIT]) -> usize
+pub fn print_event(event: Event, into: &mut [u8; MAX_EVENT_LINE]) -> usize
     requires { IsEvent event }
     ensures text { take result into.new ≡ event_text event }
-    ensures length { result ≤ TEXT_LIMIT }
+    ensures length { result ≤ MAX_EVENT_LINE }
     ensures spells { SpellsEvent (take result into.new) event }
     ensures rest { drop result into.new ≡ drop result into.old }
 {

@@ -2,18 +2,18 @@
 ghost use Rattle.std.specs.Prelude.{◌≡◌, ◌+◌, ◌<◌, ◌≤◌, ◌++◌, ℕ, IfErr, IfOk, List, [], ◌∷◌, length};
 ghost use Rattle.stair_rack.specs.declared.watcher.Event.{Event};
 ghost use Rattle.stair_script.specs.Events.{IsEvent};
-ghost use Rattle.stair_story.specs.Means.{Means};
-ghost use Rattle.stair_story.specs.Outside.{outside, source_view, views};
-ghost use Rattle.stair_story.specs.Plan.{Over};
-ghost use Rattle.stair_story.specs.Texts.{TakesByte};
-ghost use Rattle.stair_monitor.specs.Reports.{counts_line, report_plan, report_text, slot_line, status_of};
+ghost use Rattle.stair_command.specs.Executes.{Executes};
+ghost use Rattle.stair_command.specs.Outside.{outside, source_view, views};
+ghost use Rattle.stair_command.specs.Program.{Over};
+ghost use Rattle.stair_command.specs.Texts.{TakesByte};
+ghost use Rattle.stair_monitor.specs.Reports.{counts_line, report_program, report_text, slot_line, status_of};
 ghost use Rattle.stair_monitor.specs.Seen.{CountsOf, FailsByte, IsEventOf, IsFew, ReadsText, SeesLast, Tells};
 
-use crate::printing::TEXT_LIMIT;
+use crate::printing::MAX_EVENT_LINE;
 use crate::reading::read_event;
+use stair_command::{Filled, Status, take_at_least};
 use stair_rack::{Counts, Event, Sink, Source};
 use stair_script::SCRIPT_LIMIT;
-use stair_story::{Filled, Status, take_at_least};
 use stair_watch::{Line, put_until_fault};
 
 /// Why no report was put out, or only a part of one.
@@ -36,8 +36,8 @@ pub enum ReportFault {
 /// ([`read_event`]). A text has at most as many bytes as a script. It is taken byte by byte, and nothing is put out before all of it
 /// was. It takes no memory.
 pub fn report<S: Source, K: Sink>(input: &mut S, output: &mut K) -> Result<(), ReportFault>
-    ensures { (counter : ℕ) → Means (views S.Source K.Sink)
-        report_plan (Over (status_of result))
+    ensures { (counter : ℕ) → Executes (views S.Source K.Sink)
+        report_program (Over (status_of result))
         (outside input.old output.old counter) (outside input.new output.new counter) }
 {
     let seen = take_events(input)?;
@@ -157,7 +157,7 @@ fn take_events<S: Source>(input: &mut S) -> Result<Seen, ReportFault>
             seen.add(event_of(line.bytes(), number)?);
             line.clear();
             number += 1;
-        } else if line.bytes().len() < TEXT_LIMIT {
+        } else if line.bytes().len() < MAX_EVENT_LINE {
             line.push(&[byte]);
         } else {
             return Err(ReportFault::BadLine(number));

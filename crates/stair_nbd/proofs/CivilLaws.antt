@@ -1,4 +1,4 @@
--- The plan of a session ends with Done where the source tells messages none of which is a bad one, whatever the array answers.
+-- The program of a session ends with Done where the source tells messages none of which is a bad one, whatever the array answers.
 use Rattle.std.proofs.Common.{◌≡◌, ◌∙◌, ℕ, zero, suc, ◌+◌, ◌<◌, ◌≤◌, ◌==◌, Bool, true, false, List, [], ◌∷◌, ◌++◌, length, length-append, Option, None, Some, refl, sym, ap, subst, arith}
 use Rattle.std.specs.Prelude.{nat_le}
 use Rattle.std.proofs.lemmas.Bool.{eq-eqb, false≢true, le-leb, leb-true, ne_eqb}
@@ -6,14 +6,14 @@ use Rattle.std.proofs.lemmas.List.{nil_from_length}
 use lib.Seq.{drop-append_seam, take-append_seam}
 use Rattle.stair_model.specs.Geometry.{Geometry}
 use Rattle.stair_array.specs.Machine.{Answer, ReadBlock, Step, WriteBlocks}
-use Rattle.stair_story.specs.Plan.{Plan, Over, Put, Try, if_so, take_exactly}
-use Rattle.stair_story.specs.Served.{EndsDone}
-use Rattle.stair_story.specs.Story.{AreEnough}
+use Rattle.stair_command.specs.Program.{Program, Over, Put, Try, if_so, take_exactly}
+use Rattle.stair_command.specs.Served.{EndsDone}
+use Rattle.stair_command.specs.Trace.{AreEnough}
 use Rattle.stair_status.specs.declared.status.Status.TheVariants.{BadMessage, Done, Input}
 use Rattle.stair_nbd.specs.declared.wire.OptionRequest.{OptionRequest}
 use Rattle.stair_nbd.specs.declared.wire.Request.{Request}
 use Rattle.stair_nbd.specs.Civil.{AreOptions, AreRequests, IsCivil, IsMessage}
-use Rattle.stair_nbd.specs.Client.{SESSION_LIMIT, answers, answers_option, client_plan, ends_in_header, if_message, is_disconnect, options, replies, requests, responds, shakes_hands, size_of, takes_data, takes_header, too_late}
+use Rattle.stair_nbd.specs.Client.{SESSION_LIMIT, answers, answers_option, client_program, ends_in_header, if_message, is_disconnect, options, replies, requests, responds, shakes_hands, size_of, takes_data, takes_header, too_late}
 use Rattle.stair_nbd.specs.Wire.{ABORT, ACK, ERR_UNSUP, EXPORT_NAME, FLAGS_LENGTH, OPTION_LENGTH, REQUEST_LENGTH, are_flags, data_length, export_answer, is_brief, option_reply, read_option, read_request, simple_reply}
 use Rattle.stair_nbd.proofs.ClientLaws.{IsOfRequest, responds_so}
 
@@ -31,7 +31,7 @@ cut_once (p ∷ x) a [] b same long = absurd (omega (arith, long))
 
 module _ (g : Geometry) where
   -- as many bytes are taken as come first
-  takes_ends : (n : ℕ) (k short : List ℕ → Plan) (part rest : List ℕ) → length part ≡ n → EndsDone g (k part) (Some rest)
+  takes_ends : (n : ℕ) (k short : List ℕ → Program) (part rest : List ℕ) → length part ≡ n → EndsDone g (k part) (Some rest)
       → EndsDone g (take_exactly n k short) (Some (part ++ rest))
   takes_ends n k short part rest long ends = (
     λ bytes later told enough.
@@ -42,7 +42,7 @@ module _ (g : Geometry) where
   )
 
   -- the end comes in the place of the first of them
-  none_ends : (n : ℕ) (k short : List ℕ → Plan) → 0 < n → EndsDone g (short []) (Some []) → EndsDone g (take_exactly n k short) (Some [])
+  none_ends : (n : ℕ) (k short : List ℕ → Program) → 0 < n → EndsDone g (short []) (Some []) → EndsDone g (take_exactly n k short) (Some [])
   none_ends n k short some ends = (
     λ bytes later told enough. absurd (omega (arith, some, enough.enough, ap length told, length-append bytes later)),
     λ few. ends,
@@ -52,7 +52,7 @@ module _ (g : Geometry) where
   late_ends number = none_ends 1 (λ byte. Over (BadMessage number)) (λ none. Over Done) (omega arith) refl
 
   -- the bytes after a header
-  data_ends : (header n : ℕ) (k : List ℕ → Plan) (bytes rest : List ℕ) → length bytes ≡ n → EndsDone g (k bytes) (Some rest)
+  data_ends : (header n : ℕ) (k : List ℕ → Program) (bytes rest : List ℕ) → length bytes ≡ n → EndsDone g (k bytes) (Some rest)
       → EndsDone g (takes_data header n k) (Some (bytes ++ rest))
   data_ends header zero k bytes rest long ends =
       let none : bytes ≡ [] = nil_from_length bytes long in
@@ -62,12 +62,12 @@ module _ (g : Geometry) where
       takes_ends (suc n) k (λ some. Over (Input (header + suc n) (header + length some))) bytes rest long ends
 
   -- a message is read where it is one
-  said_ends : {M : Type 0} (number : ℕ) (k : M → Plan) (said : Option M) (message : M) (left : Option (List ℕ)) → said ≡ Some message
+  said_ends : {M : Type 0} (number : ℕ) (k : M → Program) (said : Option M) (message : M) (left : Option (List ℕ)) → said ≡ Some message
       → EndsDone g (k message) left → EndsDone g (if_message number k said) left
   said_ends number k said message left is ends = subst (λ (o : Option _). EndsDone g (if_message number k o) left) (sym is) ends
 
   -- no message comes too late
-  early : (taken : ℕ) (this that : Plan) (left : Option (List ℕ)) → taken < SESSION_LIMIT → EndsDone g that left
+  early : (taken : ℕ) (this that : Program) (left : Option (List ℕ)) → taken < SESSION_LIMIT → EndsDone g that left
       → EndsDone g (if_so (nat_le SESSION_LIMIT taken) this that) left
   early taken this that left soon ends = by (nat_le SESSION_LIMIT taken) refl
     where
@@ -76,26 +76,26 @@ module _ (g : Geometry) where
       by false is = ends
 
   -- by a test that comes out so
-  so_ends : (test : Bool) (this that : Plan) (left : Option (List ℕ)) → test ≡ true → EndsDone g this left → EndsDone g (if_so test this that) left
+  so_ends : (test : Bool) (this that : Program) (left : Option (List ℕ)) → test ≡ true → EndsDone g this left → EndsDone g (if_so test this that) left
   so_ends test this that left is ends = subst (λ (b : Bool). EndsDone g (if_so b this that) left) (sym is) ends
 
-  else_ends : (test : Bool) (this that : Plan) (left : Option (List ℕ)) → test ≡ false → EndsDone g that left → EndsDone g (if_so test this that) left
+  else_ends : (test : Bool) (this that : Program) (left : Option (List ℕ)) → test ≡ false → EndsDone g that left → EndsDone g (if_so test this that) left
   else_ends test this that left is ends = subst (λ (b : Bool). EndsDone g (if_so b this that) left) (sym is) ends
 
   -- ---- requests
 
   -- whatever a step answers
-  tried_ends : (left : Option (List ℕ)) (step : Step) (k : Answer step → Bool → Plan) → IsOfRequest g step
+  tried_ends : (left : Option (List ℕ)) (step : Step) (k : Answer step → Bool → Program) → IsOfRequest g step
       → ((answer : Answer step) (gone : Bool) → EndsDone g (k answer gone) left) → EndsDone g (Try step k) left
   tried_ends left (ReadBlock block) k of ends = ends
   tried_ends left (WriteBlocks first contents) k of ends = ends
   tried_ends left _ k of ends = absurd of
 
-  request_ends : (q : Request) (bytes rest : List ℕ) (plan : Plan) → length bytes ≡ data_length q → EndsDone g plan (Some rest)
-      → EndsDone g (answers g q plan) (Some (bytes ++ rest))
-  request_ends q bytes rest plan long ends =
-      data_ends REQUEST_LENGTH (data_length q) (λ some. responds g q some (replies q plan) q.command) bytes rest long
-      (responds_so g (λ p. EndsDone g p (Some rest)) (tried_ends (Some rest)) q (replies q plan) (λ why some. ends) bytes q.command)
+  request_ends : (q : Request) (bytes rest : List ℕ) (program : Program) → length bytes ≡ data_length q → EndsDone g program (Some rest)
+      → EndsDone g (answers g q program) (Some (bytes ++ rest))
+  request_ends q bytes rest program long ends =
+      data_ends REQUEST_LENGTH (data_length q) (λ some. responds g q some (replies q program) q.command) bytes rest long
+      (responds_so g (λ p. EndsDone g p (Some rest)) (tried_ends (Some rest)) q (replies q program) (λ why some. ends) bytes q.command)
 
   requests_end : (taken : ℕ) (input : List ℕ) → AreRequests taken input → (turns number : ℕ) → SESSION_LIMIT ≤ turns + taken
       → EndsDone g (requests g turns number taken) (Some input)
@@ -113,7 +113,7 @@ module _ (g : Geometry) where
           (read_request header)) (ends_in_header REQUEST_LENGTH) (omega arith) refl
   requests_end taken input (AreRequests.Leaves _ q header rest of reads goes) zero number room = absurd (omega (arith, room, of.early))
   requests_end taken input (AreRequests.Leaves _ q header rest of reads goes) (suc turns) number room =
-      let one : Request → Plan =
+      let one : Request → Program =
       λ p. if_so (is_disconnect p.command) (Over Done) (answers g p (requests g turns (number + 1) (taken + REQUEST_LENGTH + data_length p))) in
       early taken (too_late number) (takes_header REQUEST_LENGTH (λ bytes. if_message number one (read_request bytes))) (Some (header ++ rest)) of.early
       (takes_ends REQUEST_LENGTH (λ bytes. if_message number one (read_request bytes)) (ends_in_header REQUEST_LENGTH) header rest of.whole
@@ -121,7 +121,7 @@ module _ (g : Geometry) where
       (so_ends (is_disconnect q.command) (Over Done) (answers g q (requests g turns (number + 1) (taken + REQUEST_LENGTH + data_length q))) (Some rest) goes refl)))
   requests_end taken input (AreRequests.Asks _ q header bytes rest of reads stays more) zero number room = absurd (omega (arith, room, of.early))
   requests_end taken input (AreRequests.Asks _ q header bytes rest of reads stays more) (suc turns) number room =
-      let one : Request → Plan =
+      let one : Request → Program =
       λ p. if_so (is_disconnect p.command) (Over Done) (answers g p (requests g turns (number + 1) (taken + REQUEST_LENGTH + data_length p))) in
       early taken (too_late number) (takes_header REQUEST_LENGTH (λ some. if_message number one (read_request some))) (Some (header ++ (bytes ++ rest))) of.early
       (takes_ends REQUEST_LENGTH (λ some. if_message number one (read_request some)) (ends_in_header REQUEST_LENGTH) header (bytes ++ rest) of.whole
@@ -134,14 +134,14 @@ module _ (g : Geometry) where
   -- ---- options
 
   module _ (export : List ℕ) where
-    abbrev behind : (number taken : ℕ) → Plan
+    abbrev behind : (number taken : ℕ) → Program
     behind = requests g SESSION_LIMIT
 
-    abbrev last : (turns number taken : ℕ) → OptionRequest → Plan
+    abbrev last : (turns number taken : ℕ) → OptionRequest → Program
     last turns number taken o = answers_option o export (behind (number + 1) (taken + OPTION_LENGTH + o.length))
         (options export behind turns (number + 1) (taken + OPTION_LENGTH + o.length))
 
-    abbrev one : (turns number taken : ℕ) → OptionRequest → Plan
+    abbrev one : (turns number taken : ℕ) → OptionRequest → Program
     one turns number taken o = takes_data OPTION_LENGTH o.length (λ bytes. last turns number taken o)
 
     -- an option that is taken whole
@@ -198,7 +198,7 @@ module _ (g : Geometry) where
 
   -- ---- whole sessions
 
-  pub client_ends : (input : List ℕ) → IsCivil input → EndsDone g (client_plan g) (Some input)
+  pub client_ends : (input : List ℕ) → IsCivil input → EndsDone g (client_program g) (Some input)
   client_ends input IsCivil.Silent =
       none_ends FLAGS_LENGTH
       (λ flags. if_so (are_flags flags) (options (export_answer (size_of g) (is_brief flags)) (requests g SESSION_LIMIT) SESSION_LIMIT 2 FLAGS_LENGTH)

@@ -8,17 +8,17 @@ use Rattle.stair_model.specs.Stripe.{SECTOR}
 use Rattle.stair_array.specs.Arrays.{answer_as}
 use Rattle.stair_array.specs.Machine.{ReadBlock}
 use Rattle.stair_array.specs.declared.fault.ArrayFault.{ArrayFault}
-use Rattle.stair_story.specs.Comes.{ComesTo}
-use Rattle.stair_story.specs.Devices.{DeviceView, Devices}
-use Rattle.stair_story.specs.Plan.{Plan}
-use Rattle.stair_story.specs.Steps.{Takes}
-use Rattle.stair_story.proofs.ComesLaws.{comes_none, comes_then}
+use Rattle.stair_command.specs.Comes.{ExecutesOnDevices}
+use Rattle.stair_command.specs.Devices.{DeviceView, Devices}
+use Rattle.stair_command.specs.Program.{Program}
+use Rattle.stair_command.specs.Steps.{Takes}
+use Rattle.stair_command.proofs.ComesLaws.{comes_none, comes_then}
 use Rattle.stair_watch.specs.WatcherList.{AllStay}
 use Rattle.stair_nbd.specs.Client.{reads_on, tries}
 use Rattle.stair_nbd.proofs.TriedLaws.{HasGeometry, IsOpen, comes_read, comes_unread, geometry_stays}
 
 -- one block more
-reads_next : (first count done : ℕ) (so_far : List ℕ) (refused : Plan) (k : List ℕ → Plan) → done < count
+reads_next : (first count done : ℕ) (so_far : List ℕ) (refused : Program) (k : List ℕ → Program) → done < count
     → reads_on (first + done) (count - done) so_far refused k
     ≡ tries (ReadBlock (first + done)) refused (λ bytes. reads_on (first + (done + 1)) (count - (done + 1)) (so_far ++ bytes) refused k)
 reads_next first count done so_far refused k below =
@@ -28,9 +28,9 @@ reads_next first count done so_far refused k below =
     ∙ ap (λ (b : ℕ). tries (ReadBlock (first + done)) refused (λ bytes. reads_on b (count - (done + 1)) (so_far ++ bytes) refused k)) later
 
 module _ {R W : Type 0} (view : DeviceView R W) (first count : ℕ) (x : Devices R W) where
-  -- from the first block on to this plan
-  abbrev Comes : Devices R W → (Plan → (List ℕ → Plan) → Plan) → Type 0
-  Comes y rest = (refused : Plan) (k : List ℕ → Plan) → ComesTo view (reads_on first count [] refused k) (rest refused k) x y
+  -- from the first block on to this program
+  abbrev Comes : Devices R W → (Program → (List ℕ → Program) → Program) → Type 0
+  Comes y rest = (refused : Program) (k : List ℕ → Program) → ExecutesOnDevices view (reads_on first count [] refused k) (rest refused k) x y
 
   -- So many blocks were read.
   pub record ReadSoFar (done : ℕ) (into : List ℕ) (y : Devices R W) : Type 0 where
@@ -46,7 +46,7 @@ module _ {R W : Type 0} (view : DeviceView R W) (first count : ℕ) (x : Devices
     comes = λ refused k.
         let from : first ≡ first + 0 = omega arith in
         let many : count ≡ count - 0 = omega arith in
-        subst (λ (rest : Plan). ComesTo view (reads_on first count [] refused k) rest x x) (λ i. reads_on (from i) (many i) [] refused k)
+        subst (λ (rest : Program). ExecutesOnDevices view (reads_on first count [] refused k) rest x x) (λ i. reads_on (from i) (many i) [] refused k)
         (comes_none view (reads_on first count [] refused k) x);
   }
 
@@ -56,14 +56,14 @@ module _ {R W : Type 0} (view : DeviceView R W) (first count : ℕ) (x : Devices
     pub read_geometry : (g : Geometry) → HasGeometry g x.session → HasGeometry g z.session
     read_geometry g has = geometry_stays view y z (ReadBlock (first + done)) (answer_as bytes result) takes opened g (so_far.geometry g has)
 
-    -- the plan after the next block
-    abbrev behind : Plan → (List ℕ → Plan) → List ℕ → Plan
+    -- the program after the next block
+    abbrev behind : Program → (List ℕ → Program) → List ℕ → Program
     behind refused k bytes = reads_on (first + (done + 1)) (count - (done + 1)) (take (SECTOR * done) into ++ bytes) refused k
 
     -- before it
     at_next : Comes y (λ refused k. tries (ReadBlock (first + done)) refused (behind refused k))
     at_next refused k =
-        subst (λ (plan : Plan). ComesTo view (reads_on first count [] refused k) plan x y)
+        subst (λ (program : Program). ExecutesOnDevices view (reads_on first count [] refused k) program x y)
         (reads_next first count done (take (SECTOR * done) into) refused k below) (so_far.comes refused k)
 
     -- it was read
@@ -77,7 +77,7 @@ module _ {R W : Type 0} (view : DeviceView R W) (first count : ℕ) (x : Devices
           geometry = read_geometry;
           stay = stay;
           comes = λ refused k.
-              subst (λ (got : List ℕ). ComesTo view (reads_on first count [] refused k) (reads_on (first + (done + 1)) (count - (done + 1)) got refused k) x z)
+              subst (λ (got : List ℕ). ExecutesOnDevices view (reads_on first count [] refused k) (reads_on (first + (done + 1)) (count - (done + 1)) got refused k) x z)
               (sym up)
               (comes_then view (at_next refused k) (comes_read view y z refused result (first + done) bytes (behind refused k) ok takes));
         }
@@ -92,6 +92,6 @@ module _ {R W : Type 0} (view : DeviceView R W) (first count : ℕ) (x : Devices
       → Comes y (λ refused k. k into)
   all_read done into y so_far past long refused k =
       let none : count - done ≡ 0 = omega (arith, past) in
-      subst (λ (rest : Plan). ComesTo view (reads_on first count [] refused k) rest x y)
+      subst (λ (rest : Program). ExecutesOnDevices view (reads_on first count [] refused k) rest x y)
       (ap (λ (n : ℕ). reads_on (first + done) n (take (SECTOR * done) into) refused k) none ∙ ap k (take_all (SECTOR * done) into long))
       (so_far.comes refused k)

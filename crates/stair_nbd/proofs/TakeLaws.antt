@@ -5,17 +5,17 @@ use Rattle.std.proofs.lemmas.Bool.{ltb-false}
 use Rattle.std.proofs.lemmas.Slice.{between-put_mid}
 use borrow.Rule.Slice.PartMut.{put_mid}
 use Rattle.stair_model.specs.Stripe.{SECTOR}
-use Rattle.stair_story.specs.declared.streams.Filled.TheVariants.{Enough, Failed, Short}
+use Rattle.stair_command.specs.declared.streams.Filled.TheVariants.{Enough, Failed, Short}
 use Rattle.stair_status.specs.declared.status.Status.TheVariants.{BadMessage, Done, Input, InputFault}
-use Rattle.stair_story.specs.Means.{Gives}
-use Rattle.stair_story.specs.Outside.{SourceView}
-use Rattle.stair_story.specs.Plan.{Plan, Over, take_exactly}
-use Rattle.stair_story.specs.Story.{TakeFailed, Took, TookLast}
-use Rattle.stair_story.specs.Streams.{FillGives}
-use Rattle.stair_story.specs.Taking.{TookSoFar}
-use Rattle.stair_story.specs.Talks.{TakesTo}
-use Rattle.stair_story.proofs.IntakeLaws.{Gives-failed, Gives-last, Gives-took, TookSoFar-more, TookSoFar-none, TookSoFar-took, are_all}
-use Rattle.stair_story.proofs.TalkLaws.{takes_none, takes_one}
+use Rattle.stair_command.specs.Executes.{Gives}
+use Rattle.stair_command.specs.Outside.{SourceView}
+use Rattle.stair_command.specs.Program.{Program, Over, take_exactly}
+use Rattle.stair_command.specs.Trace.{TakeFailed, Took, TookLast}
+use Rattle.stair_command.specs.Streams.{FillGives}
+use Rattle.stair_command.specs.Taking.{TookSoFar}
+use Rattle.stair_command.specs.Talks.{TakesTo}
+use Rattle.stair_command.proofs.IntakeLaws.{Gives-failed, Gives-last, Gives-took, TookSoFar-more, TookSoFar-none, TookSoFar-took, are_all}
+use Rattle.stair_command.proofs.TalkLaws.{takes_none, takes_one}
 use Rattle.stair_nbd.specs.Client.{DATA_LIMIT, ends_in_header, is_too_long, skipped, takes_data, takes_header}
 use Rattle.stair_nbd.specs.Sessions.{BLOCKS, IsKept, TakesData, after_data}
 use Rattle.stair_nbd.specs.Wire.{REQUEST_LENGTH, data_length, data_length_of}
@@ -26,7 +26,7 @@ use Rattle.stair_nbd.specs.declared.wire.Request.{Request}
 
 -- ---- exactly so many bytes
 
-module _ {S : Type 0} (view : SourceView S) (n : ℕ) (k short : List ℕ → Plan) (a b : S) (into : List ℕ) where
+module _ {S : Type 0} (view : SourceView S) (n : ℕ) (k short : List ℕ → Program) (a b : S) (into : List ℕ) where
   -- all of them came
   pub took_all : (count : ℕ) → length into ≡ n → FillGives view n (Enough count) into a b → TakesTo view (take_exactly n k short) (k into) a b
   took_all count long gives =
@@ -51,7 +51,7 @@ header_cut : (n count : ℕ) (bytes : List ℕ) → length bytes ≡ count → (
 header_cut n count [] long some = absurd (some (sym long))
 header_cut n count (byte ∷ bytes) long some = ap (λ (m : ℕ). Over (Input n m)) long
 
-module _ {S : Type 0} (view : SourceView S) (n : ℕ) (k : List ℕ → Plan) (a b : S) (into : List ℕ) where
+module _ {S : Type 0} (view : SourceView S) (n : ℕ) (k : List ℕ → Program) (a b : S) (into : List ℕ) where
   -- the end came before it
   pub header_none : (count : ℕ) → count ≡ 0 → FillGives view n (Short count) into a b → TakesTo view (takes_header n k) (Over Done) a b
   header_none count none gives =
@@ -63,23 +63,23 @@ module _ {S : Type 0} (view : SourceView S) (n : ℕ) (k : List ℕ → Plan) (a
       → TakesTo view (takes_header n k) (Over (Input n count)) a b
   header_short count long some gives =
       let within : count ≤ length into = omega (arith, gives.0, long) in
-      subst (λ (rest : Plan). TakesTo view (takes_header n k) rest a b) (header_cut n count (take count into) (length-take-le count into within) some)
+      subst (λ (rest : Program). TakesTo view (takes_header n k) rest a b) (header_cut n count (take count into) (length-take-le count into within) some)
       (took_part view n k (ends_in_header n) a b into count gives)
 
 -- ---- the bytes after it
 
 -- where the end came within them
-abbrev data_cut : (header n : ℕ) → List ℕ → Plan
+abbrev data_cut : (header n : ℕ) → List ℕ → Program
 data_cut header n bytes = Over (Input (header + n) (header + length bytes))
 
-takes_some : (header n : ℕ) (k : List ℕ → Plan) → 0 < n → takes_data header n k ≡ take_exactly n k (data_cut header n)
+takes_some : (header n : ℕ) (k : List ℕ → Program) → 0 < n → takes_data header n k ≡ take_exactly n k (data_cut header n)
 takes_some header zero k some = absurd (omega (arith, some))
 takes_some header (suc n) k some = refl
 
-module _ {S : Type 0} (view : SourceView S) (header n : ℕ) (k : List ℕ → Plan) (a b : S) (some : 0 < n) where
+module _ {S : Type 0} (view : SourceView S) (header n : ℕ) (k : List ℕ → Program) (a b : S) (some : 0 < n) where
   -- what is so of exactly so many bytes
-  of_some : (rest : Plan) → TakesTo view (take_exactly n k (data_cut header n)) rest a b → TakesTo view (takes_data header n k) rest a b
-  of_some rest = subst (λ (plan : Plan). TakesTo view plan rest a b) (sym (takes_some header n k some))
+  of_some : (rest : Program) → TakesTo view (take_exactly n k (data_cut header n)) rest a b → TakesTo view (takes_data header n k) rest a b
+  of_some rest = subst (λ (program : Program). TakesTo view program rest a b) (sym (takes_some header n k some))
 
   module _ (into : List ℕ) where
     -- all came
@@ -114,10 +114,10 @@ module _ {S : Type 0} (view : SourceView S) (a : S) where
 
   module _ (header n dropped : ℕ) (b : S) (so_far : DroppedSoFar view dropped a b) where
     -- these were all
-    pub dropped_all : n ≡ dropped → (bytes : List ℕ) × ((k : List ℕ → Plan) → TakesTo view (takes_data header n k) (k bytes) a b)
+    pub dropped_all : n ≡ dropped → (bytes : List ℕ) × ((k : List ℕ → Program) → TakesTo view (takes_data header n k) (k bytes) a b)
     dropped_all all = by_length n all
       where
-        by_length : (m : ℕ) → m ≡ dropped → (bytes : List ℕ) × ((k : List ℕ → Plan) → TakesTo view (takes_data header m k) (k bytes) a b)
+        by_length : (m : ℕ) → m ≡ dropped → (bytes : List ℕ) × ((k : List ℕ → Program) → TakesTo view (takes_data header m k) (k bytes) a b)
         by_length zero all =
             ([], λ k. subst (λ (s : S). TakesTo view (k []) (k []) a s) (sym (so_far.still (sym all))) (takes_none view (k []) a))
         by_length (suc m) all =
@@ -138,7 +138,7 @@ module _ {S : Type 0} (view : SourceView S) (a : S) where
       }
 
       -- and fewer of the next ones, and then the end
-      pub dropped_short : (k : List ℕ → Plan) (more : ℕ) → dropped + least ≤ n → length into ≡ least → FillGives view least (Short more) into b c
+      pub dropped_short : (k : List ℕ → Program) (more : ℕ) → dropped + least ≤ n → length into ≡ least → FillGives view least (Short more) into b c
           → TakesTo view (takes_data header n k) (Over (Input (header + n) (header + dropped + more))) a c
       dropped_short k more within long gives =
           let bytes = so_far.bytes ++ take more into in
@@ -152,7 +152,7 @@ module _ {S : Type 0} (view : SourceView S) (a : S) where
           (Gives-last view so_far.bytes (take more into) a b c so_far.taken gives.1))
 
       -- and then the source failed
-      pub dropped_failed : (k : List ℕ → Plan) → dropped + least ≤ n → FillGives view least Failed into b c → TakesTo view (takes_data header n k) (Over InputFault) a c
+      pub dropped_failed : (k : List ℕ → Program) → dropped + least ≤ n → FillGives view least Failed into b c → TakesTo view (takes_data header n k) (Over InputFault) a c
       dropped_failed k within gives =
           let bytes = so_far.bytes ++ gives.0 in
           let few : length bytes < n = omega (arith, length-append so_far.bytes gives.0, gives.1, within, so_far.many) in
@@ -183,7 +183,7 @@ on_done (Err why) P fact = tt
 pub request_kept : {S : Type 0} (view : SourceView S) (size : ℕ) (q : Request) (result : Result (Unit {0}) NbdFault) (start count : ℕ) (buffer into : List ℕ)
     (a b : S) → start ≡ skipped q → count ≡ data_length q → start + count ≤ length buffer
     → length into ≡ length (take (start + count - start) (drop start buffer))
-    → ((k : List ℕ → Plan) → TakesTo view (takes_data REQUEST_LENGTH (length (take (start + count - start) (drop start buffer))) k) (after_data result into k) a b)
+    → ((k : List ℕ → Program) → TakesTo view (takes_data REQUEST_LENGTH (length (take (start + count - start) (drop start buffer))) k) (after_data result into k) a b)
     → TakesData view size q result (put_mid start (start + count - start) buffer into) a b
 request_kept view size q result start count buffer into a b from many room long takes =
     let all : length (take (start + count - start) (drop start buffer)) ≡ data_length q =

@@ -8,32 +8,32 @@ use Rattle.stair_model.specs.Stripe.{SECTOR}
 use Rattle.stair_array.specs.Arrays.{blocks_of, outcome}
 use Rattle.stair_array.specs.Machine.{WriteBlocks}
 use Rattle.stair_array.specs.declared.fault.ArrayFault.{ArrayFault}
-use Rattle.stair_story.specs.Comes.{ComesTo}
-use Rattle.stair_story.specs.Devices.{DeviceView, Devices}
-use Rattle.stair_story.specs.Pieces.{piece_blocks}
-use Rattle.stair_story.specs.Plan.{Plan, if_so}
-use Rattle.stair_story.specs.Steps.{Takes}
-use Rattle.stair_story.proofs.ComesLaws.{comes_none, comes_then}
-use Rattle.stair_story.proofs.PieceLaws.{piece_left, piece_some}
+use Rattle.stair_command.specs.Comes.{ExecutesOnDevices}
+use Rattle.stair_command.specs.Devices.{DeviceView, Devices}
+use Rattle.stair_command.specs.Pieces.{piece_blocks}
+use Rattle.stair_command.specs.Program.{Program, if_so}
+use Rattle.stair_command.specs.Steps.{Takes}
+use Rattle.stair_command.proofs.ComesLaws.{comes_none, comes_then}
+use Rattle.stair_command.proofs.PieceLaws.{piece_left, piece_some}
 use Rattle.stair_watch.specs.WatcherList.{AllStay}
 use Rattle.stair_nbd.specs.Client.{tries, writes_on}
 use Rattle.stair_nbd.proofs.TriedLaws.{HasGeometry, IsOpen, comes_unwritten, comes_written, geometry_stays}
 
 -- a turn that writes so many of the blocks that are left
-abbrev turn : Geometry → (count turns block left : ℕ) → List ℕ → (refused done : Plan) → Plan
+abbrev turn : Geometry → (count turns block left : ℕ) → List ℕ → (refused done : Program) → Program
 turn g count turns block left bytes refused done =
     tries (WriteBlocks block (blocks_of (take (SECTOR * count) bytes))) refused
     (λ ok. writes_on g turns (block + count) (left - count) (drop (SECTOR * count) bytes) refused done)
 
 -- one turn more
-writes_next : (g : Geometry) (turns block left : ℕ) (bytes : List ℕ) (refused done : Plan) → 0 < left
+writes_next : (g : Geometry) (turns block left : ℕ) (bytes : List ℕ) (refused done : Program) → 0 < left
     → writes_on g (suc turns) block left bytes refused done ≡ turn g (piece_blocks g block left) turns block left bytes refused done
 writes_next g turns block left bytes refused done some =
     ap (λ (is : Bool). if_so is done (turn g (piece_blocks g block left) turns block left bytes refused done))
     (ne_eqb left 0 (λ none. omega (arith, some, none)))
 
 -- none is left
-writes_done : (g : Geometry) (turns block left : ℕ) (bytes : List ℕ) (refused done : Plan) → left ≡ 0
+writes_done : (g : Geometry) (turns block left : ℕ) (bytes : List ℕ) (refused done : Program) → left ≡ 0
     → writes_on g turns block left bytes refused done ≡ done
 writes_done g zero block left bytes refused done none = refl
 writes_done g (suc turns) block left bytes refused done none =
@@ -61,10 +61,10 @@ module _ (g : Geometry) (first long done : ℕ) (whole : SECTOR * (long / SECTOR
   piece_fits = omega (arith, piece_left g (first + done / SECTOR) ((long - done) / SECTOR) some_left left_within, whole, whole_done, below)
 
 module _ {R W : Type 0} (view : DeviceView R W) (g : Geometry) (first : ℕ) (blocks : List ℕ) (x : Devices R W) where
-  -- from the first block on to this plan
-  abbrev Comes : Devices R W → (Plan → Plan → Plan) → Type 0
-  Comes y rest = (refused over : Plan)
-      → ComesTo view (writes_on g (length blocks / SECTOR) first (length blocks / SECTOR) blocks refused over) (rest refused over) x y
+  -- from the first block on to this program
+  abbrev Comes : Devices R W → (Program → Program → Program) → Type 0
+  Comes y rest = (refused over : Program)
+      → ExecutesOnDevices view (writes_on g (length blocks / SECTOR) first (length blocks / SECTOR) blocks refused over) (rest refused over) x y
 
   -- So many bytes were written, which are whole blocks.
   pub record WroteSoFar (done : ℕ) (y : Devices R W) : Type 0 where
@@ -88,7 +88,7 @@ module _ {R W : Type 0} (view : DeviceView R W) (g : Geometry) (first : ℕ) (bl
     comes = λ refused over.
         let from : first ≡ first + 0 / SECTOR = omega arith in
         let left : length blocks / SECTOR ≡ (length blocks - 0) / SECTOR = omega arith in
-        subst (λ (plan : Plan). ComesTo view (writes_on g (length blocks / SECTOR) first (length blocks / SECTOR) blocks refused over) plan x x)
+        subst (λ (program : Program). ExecutesOnDevices view (writes_on g (length blocks / SECTOR) first (length blocks / SECTOR) blocks refused over) program x x)
         (λ i. writes_on g (length blocks / SECTOR) (from i) (left i) blocks refused over)
         (comes_none view (writes_on g (length blocks / SECTOR) first (length blocks / SECTOR) blocks refused over) x);
   }
@@ -116,7 +116,7 @@ module _ {R W : Type 0} (view : DeviceView R W) (g : Geometry) (first : ℕ) (bl
     -- before the piece
     at_turn : Comes y (turn g count less (first + done / SECTOR) left (drop done blocks))
     at_turn refused over =
-        subst (λ (plan : Plan). ComesTo view (writes_on g (length blocks / SECTOR) first (length blocks / SECTOR) blocks refused over) plan x y)
+        subst (λ (program : Program). ExecutesOnDevices view (writes_on g (length blocks / SECTOR) first (length blocks / SECTOR) blocks refused over) program x y)
         (ap (λ (turns : ℕ). writes_on g turns (first + done / SECTOR) left (drop done blocks) refused over) (fuel done so_far.turns below so_far.enough).1
         ∙ writes_next g less (first + done / SECTOR) left (drop done blocks) refused over
         (some_left g first (length blocks) done whole within so_far.whole below)
@@ -127,8 +127,8 @@ module _ {R W : Type 0} (view : DeviceView R W) (g : Geometry) (first : ℕ) (bl
     took : Takes view (WriteBlocks (first + done / SECTOR) (blocks_of (take (SECTOR * count) (drop done blocks)))) (outcome result) y z
     took = subst (λ (bytes : List ℕ). Takes view (WriteBlocks (first + done / SECTOR) (blocks_of bytes)) (outcome result) y z) same_piece takes
 
-    -- the plan after it
-    abbrev behind : Plan → Plan → Unit {0} → Plan
+    -- the program after it
+    abbrev behind : Program → Program → Unit {0} → Program
     behind refused over ok = writes_on g less (first + done / SECTOR + count) (left - count) (drop (SECTOR * count) (drop done blocks)) refused over
 
     -- its blocks were refused
@@ -153,7 +153,7 @@ module _ {R W : Type 0} (view : DeviceView R W) (g : Geometry) (first : ℕ) (bl
           turns = less;
           enough = omega (arith, so_far.enough, (fuel done so_far.turns below so_far.enough).1, more, same_count);
           comes = λ refused over.
-              subst (λ (plan : Plan). ComesTo view (writes_on g (length blocks / SECTOR) first (length blocks / SECTOR) blocks refused over) plan x z)
+              subst (λ (program : Program). ExecutesOnDevices view (writes_on g (length blocks / SECTOR) first (length blocks / SECTOR) blocks refused over) program x z)
               (λ i. writes_on g less (block i) (rest i) (drop-drop (SECTOR * count) done blocks i) refused over)
               (comes_then view (at_turn refused over)
               (comes_written view y z refused result (first + done / SECTOR) (take (SECTOR * count) (drop done blocks)) (behind refused over) ok took));
@@ -162,6 +162,6 @@ module _ {R W : Type 0} (view : DeviceView R W) (g : Geometry) (first : ℕ) (bl
   -- all were
   pub all_written : (done : ℕ) (y : Devices R W) → WroteSoFar done y → length blocks ≤ done → Comes y (λ refused over. over)
   all_written done y so_far past refused over =
-      subst (λ (plan : Plan). ComesTo view (writes_on g (length blocks / SECTOR) first (length blocks / SECTOR) blocks refused over) plan x y)
+      subst (λ (program : Program). ExecutesOnDevices view (writes_on g (length blocks / SECTOR) first (length blocks / SECTOR) blocks refused over) program x y)
       (writes_done g so_far.turns (first + done / SECTOR) ((length blocks - done) / SECTOR) (drop done blocks) refused over (omega (arith, past)))
       (so_far.comes refused over)

@@ -4,8 +4,8 @@ use Rattle.stair_model.specs.Geometry.{Geometry, block_count}
 use Rattle.stair_model.specs.Stripe.{SECTOR}
 use Rattle.stair_array.specs.Arrays.{blocks_of}
 use Rattle.stair_array.specs.Machine.{GivenBy, ReadBlock, Refusal, Step, WriteBlocks}
-use Rattle.stair_story.specs.Pieces.{piece_blocks}
-use Rattle.stair_story.specs.Plan.{Plan, Over, Put, Try, if_so, take_exactly}
+use Rattle.stair_command.specs.Pieces.{piece_blocks}
+use Rattle.stair_command.specs.Program.{Program, Over, Put, Try, if_so, take_exactly}
 use Rattle.stair_status.specs.declared.status.Status.{Status}
 use Rattle.stair_status.specs.declared.status.Status.TheVariants.{BadMessage, Done, Input, InputFault, OutputFault}
 use Rattle.stair_nbd.specs.declared.fault.NbdFault.{NbdFault}
@@ -25,16 +25,16 @@ size_of g = SECTOR * block_count g
 -- TAKING
 
 -- Where the input ends within a header: before its first byte there is no message, and all is done.
-abbrev pub ends_in_header : (needed : ℕ) → List ℕ → Plan
+abbrev pub ends_in_header : (needed : ℕ) → List ℕ → Program
 ends_in_header needed [] = Over Done
 ends_in_header needed (byte ∷ bytes) = Over (Input needed (length (byte ∷ bytes)))
 
 -- a header of so many bytes, which is taken whole
-abbrev pub takes_header : (needed : ℕ) → (List ℕ → Plan) → Plan
+abbrev pub takes_header : (needed : ℕ) → (List ℕ → Program) → Program
 takes_header needed k = take_exactly needed k (ends_in_header needed)
 
 -- the bytes of a message after its header of so many, of which there may be none
-abbrev pub takes_data : (header length : ℕ) → (List ℕ → Plan) → Plan
+abbrev pub takes_data : (header length : ℕ) → (List ℕ → Program) → Program
 takes_data header zero k = k []
 takes_data header (suc n) k = take_exactly (suc n) k
     (λ bytes. Over (Input (header + suc n) (header + length bytes)))
@@ -44,28 +44,28 @@ abbrev pub SESSION_LIMIT : ℕ
 SESSION_LIMIT = 1099511627776
 
 -- no message may begin any more, but the end may come
-abbrev pub too_late : (number : ℕ) → Plan
+abbrev pub too_late : (number : ℕ) → Program
 too_late number = take_exactly 1 (λ byte. Over (BadMessage number)) (λ none. Over Done)
 
 -- STEPS FOR A REQUEST
 
 -- how it goes on by what a step answered: a refusal, whatever it is, comes to one thing
-abbrev pub if_answered : {X : Type 0} → (refused : Plan) → (X → Plan) → Result X Refusal → Plan
+abbrev pub if_answered : {X : Type 0} → (refused : Program) → (X → Program) → Result X Refusal → Program
 if_answered refused k (Ok x) = k x
 if_answered refused k (Err refusal) = refused
 
-abbrev pub tries : (step : Step) → (refused : Plan) → (GivenBy step → Plan) → Plan
+abbrev pub tries : (step : Step) → (refused : Program) → (GivenBy step → Program) → Program
 tries step refused k = Try step (λ answer left. if_answered refused k answer)
 
 -- so many blocks are read, from this one on, after bytes that were read
-abbrev pub reads_on : (block count : ℕ) → List ℕ → (refused : Plan) → (List ℕ → Plan) → Plan
+abbrev pub reads_on : (block count : ℕ) → List ℕ → (refused : Program) → (List ℕ → Program) → Program
 reads_on block zero so_far refused k = k so_far
 reads_on block (suc count) so_far refused k = tries (ReadBlock block) refused
     (λ bytes. reads_on (block + 1) count (so_far ++ bytes) refused k)
 
 -- So many blocks of these bytes are written, from this one on: by each step up to the end of a stripe. There are no more turns than
 -- blocks.
-abbrev pub writes_on : Geometry → (turns block left : ℕ) → List ℕ → (refused done : Plan) → Plan
+abbrev pub writes_on : Geometry → (turns block left : ℕ) → List ℕ → (refused done : Program) → Program
 writes_on g zero block left bytes refused done = done
 writes_on g (suc turns) block left bytes refused done = if_so (left == 0) done
     (let count = piece_blocks g block left in
@@ -108,9 +108,9 @@ is_past size q = nat_lt size (q.offset + q.length)
 
 -- what comes of a request: an error, or none, and the bytes after the reply's header
 abbrev pub Comes : Type 0
-Comes = ReplyError → List ℕ → Plan
+Comes = ReplyError → List ℕ → Program
 
-abbrev pub reads_for : Geometry → Request → Comes → Plan
+abbrev pub reads_for : Geometry → Request → Comes → Program
 reads_for g q k = if_so (is_too_long q || is_past (size_of g) q) (k error.Invalid [])
     (reads_on (first_block q) (touched (skipped q) q.length) [] (k error.Io [])
     (λ bytes. k error.None (take q.length (drop (skipped q) bytes))))
@@ -118,7 +118,7 @@ reads_for g q k = if_so (is_too_long q || is_past (size_of g) q) (k error.Invali
 -- WRITING
 
 -- The first block is read where it is touched in part from some byte on,
-abbrev pub reads_front : Request → (refused : Plan) → (List ℕ → Plan) → Plan
+abbrev pub reads_front : Request → (refused : Program) → (List ℕ → Program) → Program
 reads_front q refused k =
     if_so (skipped q == 0) (k []) (tries (ReadBlock (first_block q)) refused k)
 
@@ -126,7 +126,7 @@ reads_front q refused k =
 abbrev pub was_read : Request → Bool
 was_read q = nat_lt 0 (skipped q) && (end_block q == first_block q)
 
-abbrev pub reads_back : Request → (front : List ℕ) → (refused : Plan) → (List ℕ → Plan) → Plan
+abbrev pub reads_back : Request → (front : List ℕ) → (refused : Program) → (List ℕ → Program) → Program
 reads_back q front refused k = if_so (end_within q == 0) (k [])
     (if_so (was_read q) (k front) (tries (ReadBlock (end_block q)) refused k))
 
@@ -135,13 +135,13 @@ abbrev pub around : Request → (front bytes back : List ℕ) → List ℕ
 around q front bytes back =
     take (skipped q) front ++ (bytes ++ drop (end_within q) back)
 
-abbrev pub writes_blocks : Geometry → Request → List ℕ → (refused done : Plan) → Plan
+abbrev pub writes_blocks : Geometry → Request → List ℕ → (refused done : Program) → Program
 writes_blocks g q bytes refused done = reads_front q refused
     (λ front. reads_back q front refused
     (λ back. writes_on g (touched (skipped q) q.length) (first_block q)
     (touched (skipped q) q.length) (around q front bytes back) refused done))
 
-abbrev pub writes_for : Geometry → Request → List ℕ → Comes → Plan
+abbrev pub writes_for : Geometry → Request → List ℕ → Comes → Program
 writes_for g q bytes k = if_so (is_too_long q) (k error.Invalid [])
     (if_so (is_past (size_of g) q) (k error.NoSpace [])
     (if_so (q.length == 0) (k error.None [])
@@ -150,7 +150,7 @@ writes_for g q bytes k = if_so (is_too_long q) (k error.Invalid [])
 -- REQUESTS
 
 -- What is done for a request, after which these bytes came. What was written stands already, so there is nothing to flush.
-abbrev pub responds : Geometry → Request → List ℕ → Comes → Command → Plan
+abbrev pub responds : Geometry → Request → List ℕ → Comes → Command → Program
 responds g q bytes k command.Read = reads_for g q k
 responds g q bytes k command.Write = writes_for g q bytes k
 responds g q bytes k command.Disconnect = k error.None []
@@ -158,10 +158,10 @@ responds g q bytes k command.Flush = k error.None []
 responds g q bytes k command.Other = k error.Invalid []
 
 -- its reply, put out as one piece
-abbrev pub replies : Request → (rest : Plan) → Comes
+abbrev pub replies : Request → (rest : Program) → Comes
 replies q rest why bytes = Put (simple_reply why q.cookie ++ bytes) rest
 
-abbrev pub answers : Geometry → Request → (rest : Plan) → Plan
+abbrev pub answers : Geometry → Request → (rest : Program) → Program
 answers g q rest = takes_data REQUEST_LENGTH (data_length q)
     (λ bytes. responds g q bytes (replies q rest) q.command)
 
@@ -170,13 +170,13 @@ is_disconnect command.Disconnect = true
 is_disconnect _ = false
 
 -- how a session goes on with a message of this number; the rest takes what it asks for
-abbrev pub if_message : {M : Type 0} → (number : ℕ) → (M → Plan) → Option M → Plan
+abbrev pub if_message : {M : Type 0} → (number : ℕ) → (M → Program) → Option M → Program
 if_message number k None = Over (BadMessage number)
 if_message number k (Some message) = k message
 
 -- What is left of a session after so many bytes, of which the next message has this number. Each has some bytes, so turns as many
 -- as the limit are enough.
-abbrev pub requests : Geometry → (turns number taken : ℕ) → Plan
+abbrev pub requests : Geometry → (turns number taken : ℕ) → Program
 requests g zero number taken = too_late number
 requests g (suc turns) number taken = if_so (nat_le SESSION_LIMIT taken) (too_late number)
     (takes_header REQUEST_LENGTH (λ header. if_message number
@@ -187,13 +187,13 @@ requests g (suc turns) number taken = if_so (nat_le SESSION_LIMIT taken) (too_la
 -- OPTIONS
 
 -- an option that was taken whole; where it names the export, the rest is requests
-abbrev pub answers_option : OptionRequest → (export : List ℕ) → (requests more : Plan) → Plan
+abbrev pub answers_option : OptionRequest → (export : List ℕ) → (requests more : Program) → Program
 answers_option o export requests more = if_so (o.option == EXPORT_NAME) (Put export requests)
     (if_so (o.option == ABORT) (Put (option_reply ABORT ACK) (Over Done))
     (Put (option_reply o.option ERR_UNSUP) more))
 
-abbrev pub options : (export : List ℕ) → (requests : (number taken : ℕ) → Plan)
-    → (turns number taken : ℕ) → Plan
+abbrev pub options : (export : List ℕ) → (requests : (number taken : ℕ) → Program)
+    → (turns number taken : ℕ) → Program
 options export requests zero number taken = too_late number
 options export requests (suc turns) number taken =
     if_so (nat_le SESSION_LIMIT taken) (too_late number)
@@ -207,14 +207,14 @@ options export requests (suc turns) number taken =
 -- THE SESSION
 
 -- the client's flags are its first message
-abbrev pub shakes_hands : (size : ℕ) → (requests : (number taken : ℕ) → Plan) → Plan
+abbrev pub shakes_hands : (size : ℕ) → (requests : (number taken : ℕ) → Program) → Program
 shakes_hands size requests = Put greeting (takes_header FLAGS_LENGTH (λ flags.
     if_so (are_flags flags)
     (options (export_answer size (is_brief flags)) requests SESSION_LIMIT 2 FLAGS_LENGTH)
     (Over (BadMessage 1))))
 
-abbrev pub client_plan : Geometry → Plan
-client_plan g = shakes_hands (size_of g) (requests g SESSION_LIMIT)
+abbrev pub client_program : Geometry → Program
+client_program g = shakes_hands (size_of g) (requests g SESSION_LIMIT)
 
 -- the status of a session that was brought to an end, or came to it
 abbrev pub status_of_nbd : NbdFault → Status

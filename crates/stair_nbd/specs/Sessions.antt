@@ -2,41 +2,41 @@
 use Rattle.std.specs.Prelude.{◌≡◌, ◌+◌, ◌*◌, ◌<◌, ◌≤◌, ℕ, Bool, true, false, List, drop, take, Option, None, Some, Result, Ok, Err, OnOk}
 use Rattle.stair_model.specs.Stripe.{SECTOR}
 use Rattle.stair_array.specs.declared.fault.ArrayFault.{ArrayFault}
-use Rattle.stair_story.specs.Outside.{SourceView}
-use Rattle.stair_story.specs.Plan.{Plan, Over}
-use Rattle.stair_story.specs.Talks.{TakesTo}
+use Rattle.stair_command.specs.Outside.{SourceView}
+use Rattle.stair_command.specs.Program.{Program, Over}
+use Rattle.stair_command.specs.Talks.{TakesTo}
 use Rattle.stair_status.specs.declared.status.Status.TheVariants.{Done}
 use Rattle.stair_nbd.specs.declared.fault.NbdFault.{NbdFault}
-use Rattle.stair_nbd.specs.declared.place.Place.{Place}
+use Rattle.stair_nbd.specs.declared.place.MessagePosition.{MessagePosition}
 use Rattle.stair_nbd.specs.declared.reply.Reply.{Reply}
 use Rattle.stair_nbd.specs.declared.wire.Request.{Request}
 use Rattle.stair_nbd.specs.Client.{SESSION_LIMIT, is_past, is_too_long, skipped, status_of_nbd, takes_data}
 use Rattle.stair_nbd.specs.Wire.{REPLY_LENGTH, REQUEST_LENGTH, data_length}
 
 -- after a header that was taken, or before which the input ended
-abbrev pub after_header : Result Bool NbdFault → List ℕ → (List ℕ → Plan) → Plan
+abbrev pub after_header : Result Bool NbdFault → List ℕ → (List ℕ → Program) → Program
 after_header (Ok true) bytes k = k bytes
 after_header (Ok false) bytes k = Over Done
 after_header (Err why) bytes k = Over (status_of_nbd why)
 
 -- after bytes that were taken
-abbrev pub after_data : Result (Unit {0}) NbdFault → List ℕ → (List ℕ → Plan) → Plan
+abbrev pub after_data : Result (Unit {0}) NbdFault → List ℕ → (List ℕ → Program) → Program
 after_data (Ok done) bytes k = k bytes
 after_data (Err why) bytes k = Over (status_of_nbd why)
 
 -- after something that was done, whatever it was
-abbrev pub after_done : Result (Unit {0}) NbdFault → Plan → Plan
+abbrev pub after_done : Result (Unit {0}) NbdFault → Program → Program
 after_done (Ok done) rest = rest
 after_done (Err why) rest = Over (status_of_nbd why)
 
 -- after the options: the export was named, or the session is over
-abbrev pub after_options : Result (Option Place) NbdFault → ((number taken : ℕ) → Plan) → Plan
+abbrev pub after_options : Result (Option MessagePosition) NbdFault → ((number taken : ℕ) → Program) → Program
 after_options (Ok (Some place)) requests = requests place.number place.taken
 after_options (Ok None) requests = Over Done
 after_options (Err why) requests = Over (status_of_nbd why)
 
 -- a place in a session, as it is counted: each message before it had some bytes, and the last began before the limit
-pub record IsPlace (place : Place) : Type 0 where
+pub record IsPlace (place : MessagePosition) : Type 0 where
   pub few : place.number ≤ place.taken
   pub within : place.taken < SESSION_LIMIT + 4294967296 + REQUEST_LENGTH
 
@@ -58,11 +58,11 @@ pub record TakesData {S : Type 0} (view : SourceView S) (size : ℕ) (q : Reques
     (result : Result (Unit {0}) NbdFault) (buffer : List ℕ) (old new : S) : Type 0 where
   pub bytes : List ℕ
   pub kept : OnOk result (IsKept size q (data_length q) bytes buffer)
-  pub takes : (k : List ℕ → Plan) → TakesTo view (takes_data REQUEST_LENGTH (data_length q) k)
+  pub takes : (k : List ℕ → Program) → TakesTo view (takes_data REQUEST_LENGTH (data_length q) k)
       (after_data result bytes k) old new
 
 -- after steps that were done, or of which one was refused
-abbrev pub after_steps : Result (Unit {0}) ArrayFault → (refused done : Plan) → Plan
+abbrev pub after_steps : Result (Unit {0}) ArrayFault → (refused done : Program) → Program
 after_steps (Ok ok) refused done = done
 after_steps (Err why) refused done = refused
 

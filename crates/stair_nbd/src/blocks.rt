@@ -1,12 +1,12 @@
 // What is done to the blocks of an array for a request.
 ghost use Rattle.std.specs.Prelude.{◌≡◌, ◌+◌, ◌*◌, ◌/◌, ◌^◌, ◌≤◌, ◌<◌, ℕ, List, [], false, length, take, drop};
-ghost use Rattle.stair_array.specs.Promise.{Opened as IsOpen};
+ghost use Rattle.stair_array.specs.Promise.{Opened};
 ghost use Rattle.stair_model.specs.Geometry.{block_count};
 ghost use Rattle.stair_model.specs.Stripe.{SECTOR as BYTES};
-ghost use Rattle.stair_story.specs.Comes.{ComesTo};
-ghost use Rattle.stair_story.specs.Devices.{device_view, devices};
-ghost use Rattle.stair_story.specs.Plan.{Plan};
-ghost use Rattle.stair_story.specs.Rack.{rack_view};
+ghost use Rattle.stair_command.specs.Comes.{ExecutesOnDevices};
+ghost use Rattle.stair_command.specs.Devices.{device_view, devices};
+ghost use Rattle.stair_command.specs.Program.{Program};
+ghost use Rattle.stair_command.specs.Rack.{rack_view};
 ghost use Rattle.stair_watch.specs.WatcherList.{AllStay};
 ghost use Rattle.stair_nbd.specs.Client.{
   Comes,
@@ -36,8 +36,8 @@ use crate::taking::DATA_LIMIT;
 use crate::wire::{Command, ReplyError, Request};
 use stair_array::ArrayFault;
 use stair_base::{SECTOR, StripeCode};
+use stair_command::{ObservedArray, piece_blocks};
 use stair_rack::{Rack, Watcher};
-use stair_story::{Opened, piece_blocks};
 
 impl Request {
     /// Whether it has more bytes than a request may.
@@ -100,7 +100,7 @@ impl Request {
 }
 
 /// How many bytes an array has.
-pub(crate) fn array_size<C: StripeCode>(array: &Opened<C>) -> u64
+pub(crate) fn array_size<C: StripeCode>(array: &ObservedArray<C>) -> u64
     ensures { result ≡ size_of array.now.member.array.geometry }
 {
     SECTOR as u64 * array.geometry().blocks()
@@ -110,7 +110,7 @@ pub(crate) fn array_size<C: StripeCode>(array: &Opened<C>) -> u64
 /// READ will be.
 pub(crate) fn respond<C: StripeCode, R: Rack>(
     request: &Request,
-    array: &mut Opened<C>,
+    array: &mut ObservedArray<C>,
     rack: &mut R,
     buffer: &mut [u8],
     watchers: &mut Vec<Box<dyn Watcher>>,
@@ -118,12 +118,12 @@ pub(crate) fn respond<C: StripeCode, R: Rack>(
     requires room { length buffer.old ≡ BLOCKS }
     requires stay { AllStay hears watchers.old.items }
     ensures comes { (bytes : List ℕ) → IsKept (size_of array.old.member.array.geometry) request.now (data_length request.now) bytes buffer.old
-        → (k : Comes) → ComesTo
+        → (k : Comes) → ExecutesOnDevices
         (device_view (rack_view R.Rack) hears)
         (responds array.old.member.array.geometry request.now bytes k request.now.command)
         (k result.error (data_of result buffer.new))
-        (devices rack.old (IsOpen array.old) watchers.old.items)
-        (devices rack.new (IsOpen array.new) watchers.new.items) }
+        (devices rack.old (Opened array.old) watchers.old.items)
+        (devices rack.new (Opened array.new) watchers.new.items) }
     ensures geometry { array.new.member.array.geometry ≡ array.old.member.array.geometry }
     ensures within { result.start + result.length ≤ length buffer.new }
     ensures stay { AllStay hears watchers.new.items }
@@ -139,19 +139,19 @@ pub(crate) fn respond<C: StripeCode, R: Rack>(
 // Reads the blocks that a request touches.
 fn read<C: StripeCode, R: Rack>(
     request: &Request,
-    array: &mut Opened<C>,
+    array: &mut ObservedArray<C>,
     rack: &mut R,
     buffer: &mut [u8],
     watchers: &mut Vec<Box<dyn Watcher>>,
 ) -> Reply
     requires room { length buffer.old ≡ BLOCKS }
     requires stay { AllStay hears watchers.old.items }
-    ensures comes { (k : Comes) → ComesTo
+    ensures comes { (k : Comes) → ExecutesOnDevices
         (device_view (rack_view R.Rack) hears)
         (reads_for array.old.member.array.geometry request.now k)
         (k result.error (data_of result buffer.new))
-        (devices rack.old (IsOpen array.old) watchers.old.items)
-        (devices rack.new (IsOpen array.new) watchers.new.items) }
+        (devices rack.old (Opened array.old) watchers.old.items)
+        (devices rack.new (Opened array.new) watchers.new.items) }
     ensures geometry { array.new.member.array.geometry ≡ array.old.member.array.geometry }
     ensures within { result.start + result.length ≤ length buffer.new }
     ensures stay { AllStay hears watchers.new.items }
@@ -180,7 +180,7 @@ fn read<C: StripeCode, R: Rack>(
 // Reads blocks, from this one on, up to the first that is refused.
 fn read_blocks<C: StripeCode, R: Rack>(
     first: u64,
-    array: &mut Opened<C>,
+    array: &mut ObservedArray<C>,
     rack: &mut R,
     into: &mut [u8],
     watchers: &mut Vec<Box<dyn Watcher>>,
@@ -188,12 +188,12 @@ fn read_blocks<C: StripeCode, R: Rack>(
     requires whole { BYTES * (length into.old / BYTES) ≡ length into.old }
     requires fits { first + length into.old < 2 ^ 64 }
     requires stay { AllStay hears watchers.old.items }
-    ensures comes { (refused : Plan) (k : List ℕ → Plan) → ComesTo
+    ensures comes { (refused : Program) (k : List ℕ → Program) → ExecutesOnDevices
         (device_view (rack_view R.Rack) hears)
         (reads_on first (length into.old / BYTES) [] refused k)
         (after_steps result refused (k into.new))
-        (devices rack.old (IsOpen array.old) watchers.old.items)
-        (devices rack.new (IsOpen array.new) watchers.new.items) }
+        (devices rack.old (Opened array.old) watchers.old.items)
+        (devices rack.new (Opened array.new) watchers.new.items) }
     ensures geometry { array.new.member.array.geometry ≡ array.old.member.array.geometry }
     ensures stay { AllStay hears watchers.new.items }
 {
@@ -208,7 +208,7 @@ fn read_blocks<C: StripeCode, R: Rack>(
 // Writes the bytes of a request, and around them what the blocks hold that they touch in part.
 fn write<C: StripeCode, R: Rack>(
     request: &Request,
-    array: &mut Opened<C>,
+    array: &mut ObservedArray<C>,
     rack: &mut R,
     buffer: &mut [u8],
     watchers: &mut Vec<Box<dyn Watcher>>,
@@ -216,11 +216,11 @@ fn write<C: StripeCode, R: Rack>(
     requires room { length buffer.old ≡ BLOCKS }
     requires stay { AllStay hears watchers.old.items }
     ensures comes { (bytes : List ℕ) → IsKept (size_of array.old.member.array.geometry) request.now request.now.length bytes buffer.old
-        → (k : Comes) → ComesTo
+        → (k : Comes) → ExecutesOnDevices
         (device_view (rack_view R.Rack) hears)
         (writes_for array.old.member.array.geometry request.now bytes k) (k result [])
-        (devices rack.old (IsOpen array.old) watchers.old.items)
-        (devices rack.new (IsOpen array.new) watchers.new.items) }
+        (devices rack.old (Opened array.old) watchers.old.items)
+        (devices rack.new (Opened array.new) watchers.new.items) }
     ensures geometry { array.new.member.array.geometry ≡ array.old.member.array.geometry }
     ensures stay { AllStay hears watchers.new.items }
 {
@@ -242,7 +242,7 @@ fn write<C: StripeCode, R: Rack>(
 // Writes the blocks that a request touches.
 fn write_touched<C: StripeCode, R: Rack>(
     request: &Request,
-    array: &mut Opened<C>,
+    array: &mut ObservedArray<C>,
     rack: &mut R,
     buffer: &mut [u8],
     watchers: &mut Vec<Box<dyn Watcher>>,
@@ -253,13 +253,13 @@ fn write_touched<C: StripeCode, R: Rack>(
     requires fits { request.now.offset + request.now.length < 2 ^ 64 }
     requires some { 0 < request.now.length }
     requires stay { AllStay hears watchers.old.items }
-    ensures comes { (refused done : Plan) → ComesTo
+    ensures comes { (refused done : Program) → ExecutesOnDevices
         (device_view (rack_view R.Rack) hears)
         (writes_blocks array.old.member.array.geometry request.now
         (take request.now.length (drop (bytes_skipped request.now) buffer.old)) refused done)
         (after_steps result refused done)
-        (devices rack.old (IsOpen array.old) watchers.old.items)
-        (devices rack.new (IsOpen array.new) watchers.new.items) }
+        (devices rack.old (Opened array.old) watchers.old.items)
+        (devices rack.new (Opened array.new) watchers.new.items) }
     ensures geometry { array.new.member.array.geometry ≡ array.old.member.array.geometry }
     ensures stay { AllStay hears watchers.new.items }
 {
@@ -277,7 +277,7 @@ fn write_touched<C: StripeCode, R: Rack>(
 // Reads what the first and the last block hold beside the bytes of a request.
 fn read_around<C: StripeCode, R: Rack>(
     request: &Request,
-    array: &mut Opened<C>,
+    array: &mut ObservedArray<C>,
     rack: &mut R,
     blocks: &mut [u8],
     watchers: &mut Vec<Box<dyn Watcher>>,
@@ -286,14 +286,14 @@ fn read_around<C: StripeCode, R: Rack>(
     requires some { 0 < request.now.length }
     requires fits { request.now.offset + request.now.length < 2 ^ 64 }
     requires stay { AllStay hears watchers.old.items }
-    ensures comes { (refused : Plan) (k : List ℕ → Plan) → ComesTo
+    ensures comes { (refused : Program) (k : List ℕ → Program) → ExecutesOnDevices
         (device_view (rack_view R.Rack) hears)
         (reads_front request.now refused (λ front. reads_back request.now front refused
         (λ back. k (around request.now front
         (take request.now.length (drop (bytes_skipped request.now) blocks.old)) back))))
         (after_steps result refused (k blocks.new))
-        (devices rack.old (IsOpen array.old) watchers.old.items)
-        (devices rack.new (IsOpen array.new) watchers.new.items) }
+        (devices rack.old (Opened array.old) watchers.old.items)
+        (devices rack.new (Opened array.new) watchers.new.items) }
     ensures geometry { array.new.member.array.geometry ≡ array.old.member.array.geometry }
     ensures stay { AllStay hears watchers.new.items }
 {
@@ -317,7 +317,7 @@ fn read_around<C: StripeCode, R: Rack>(
 // Writes blocks, from this one on, by each step up to the end of a stripe, up to the first that is refused.
 fn write_blocks<C: StripeCode, R: Rack>(
     first: u64,
-    array: &mut Opened<C>,
+    array: &mut ObservedArray<C>,
     rack: &mut R,
     blocks: &[u8],
     watchers: &mut Vec<Box<dyn Watcher>>,
@@ -325,13 +325,13 @@ fn write_blocks<C: StripeCode, R: Rack>(
     requires whole { BYTES * (length blocks.now / BYTES) ≡ length blocks.now }
     requires within { first + length blocks.now / BYTES ≤ block_count array.old.member.array.geometry }
     requires stay { AllStay hears watchers.old.items }
-    ensures comes { (refused done : Plan) → ComesTo
+    ensures comes { (refused done : Program) → ExecutesOnDevices
         (device_view (rack_view R.Rack) hears)
         (writes_on array.old.member.array.geometry (length blocks.now / BYTES) first
         (length blocks.now / BYTES) blocks.now refused done)
         (after_steps result refused done)
-        (devices rack.old (IsOpen array.old) watchers.old.items)
-        (devices rack.new (IsOpen array.new) watchers.new.items) }
+        (devices rack.old (Opened array.old) watchers.old.items)
+        (devices rack.new (Opened array.new) watchers.new.items) }
     ensures geometry { array.new.member.array.geometry ≡ array.old.member.array.geometry }
     ensures stay { AllStay hears watchers.new.items }
 {

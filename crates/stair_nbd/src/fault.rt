@@ -1,4 +1,4 @@
-use stair_story::Status;
+use stair_command::Status;
 
 /// Why a session was brought to an end by something other than its client's word or the end of its input before a message.
 #[derive(Clone, Copy, Debug, PartialEq, Eq)]

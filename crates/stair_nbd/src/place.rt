@@ -7,16 +7,16 @@ pub const SESSION_LIMIT: u64 = 1 << 40;
 
 /// Where the next message of a session begins.
 #[derive(Clone, Copy)]
-pub(crate) struct Place {
+pub(crate) struct MessagePosition {
     /// Its number, counted from 1.
     pub(crate) number: u64,
     /// How many bytes came before it.
     pub(crate) taken: u64,
 }
 
-impl Place {
+impl MessagePosition {
     /// Where the message after one of so many bytes begins.
-    pub(crate) fn behind(self, bytes: u64) -> Place
+    pub(crate) fn behind(self, bytes: u64) -> MessagePosition
         requires some { 0 < bytes }
         requires few { self.number ≤ self.taken }
         requires early { self.taken < LIMIT }
@@ -25,7 +25,7 @@ impl Place {
         ensures taken { result.taken ≡ self.taken + bytes }
         ensures is { IsPlace result }
     {
-        Place {
+        MessagePosition {
             number: self.number + 1,
             taken: self.taken + bytes,
         }

@@ -1,26 +1,26 @@
 // A session: a client's flags, options, and requests.
 ghost use Rattle.std.specs.Prelude.{◌≡◌, ℕ, IfOk, IfSome, length};
-ghost use Rattle.stair_array.specs.Promise.{Opened as IsOpen};
-ghost use Rattle.stair_story.specs.Devices.{MeansWith, device_view, devices};
-ghost use Rattle.stair_story.specs.Outside.{outside, views};
-ghost use Rattle.stair_story.specs.Plan.{Over, Plan};
-ghost use Rattle.stair_story.specs.Rack.{rack_view};
-ghost use Rattle.stair_story.specs.Talks.{TalksTo};
+ghost use Rattle.stair_array.specs.Promise.{Opened};
+ghost use Rattle.stair_command.specs.Devices.{ExecutesWith, device_view, devices};
+ghost use Rattle.stair_command.specs.Outside.{outside, views};
+ghost use Rattle.stair_command.specs.Program.{Over, Program};
+ghost use Rattle.stair_command.specs.Rack.{rack_view};
+ghost use Rattle.stair_command.specs.Talks.{TalksTo};
 ghost use Rattle.stair_watch.specs.WatcherList.{AllStay};
-ghost use Rattle.stair_nbd.specs.Client.{SESSION_LIMIT as LIMIT, client_plan, options, requests, shakes_hands, size_of, status_of};
+ghost use Rattle.stair_nbd.specs.Client.{SESSION_LIMIT as LIMIT, client_program, options, requests, shakes_hands, size_of, status_of};
 ghost use Rattle.stair_nbd.specs.Sessions.{BUFFER as ROOM, IsPlace, after_options};
 
 use crate::blocks::{array_size, respond};
 use crate::fault::NbdFault;
-use crate::place::Place;
+use crate::place::MessagePosition;
 use crate::taking::{put, put_reply, take_data, take_end, take_header, take_request_data};
 use crate::wire::{
     ABORT, ACK, ERR_UNSUP, EXPORT_NAME, FLAGS_LENGTH, OPTION_LENGTH, OptionRequest, REPLY_LENGTH,
     REQUEST_LENGTH, Request, export_answer, greeting, option_reply, read_flags,
 };
 use stair_base::{SECTOR, StripeCode};
+use stair_command::ObservedArray;
 use stair_rack::{Rack, Sink, Source, Watcher};
-use stair_story::Opened;
 
 /// How many bytes the buffer of a session has: a header of a reply, and the blocks that the most bytes of a request touch, which are
 /// one more than they fill.
@@ -35,7 +35,7 @@ pub const BUFFER: usize = REPLY_LENGTH + 65_537 * SECTOR;
 ///
 /// The buffer has [`BUFFER`] bytes; no memory is taken beside it.
 pub fn session<C: StripeCode, R: Rack, S: Source, K: Sink>(
-    array: &mut Opened<C>,
+    array: &mut ObservedArray<C>,
     rack: &mut R,
     buffer: &mut [u8],
     input: &mut S,
@@ -44,12 +44,12 @@ pub fn session<C: StripeCode, R: Rack, S: Source, K: Sink>(
 ) -> Result<(), NbdFault>
     requires room { length buffer.old ≡ ROOM }
     requires stay { AllStay hears watchers.old.items }
-    ensures means { (counter : ℕ) → MeansWith
+    ensures means { (counter : ℕ) → ExecutesWith
         (device_view (rack_view R.Rack) hears) (views S.Source K.Sink)
-        (client_plan array.old.member.array.geometry) (Over (status_of result))
+        (client_program array.old.member.array.geometry) (Over (status_of result))
         (outside input.old output.old counter) (outside input.new output.new counter)
-        (devices rack.old (IsOpen array.old) watchers.old.items)
-        (devices rack.new (IsOpen array.new) watchers.new.items) }
+        (devices rack.old (Opened array.old) watchers.old.items)
+        (devices rack.new (Opened array.new) watchers.new.items) }
     ensures stay { AllStay hears watchers.new.items }
 {
     let size = array_size(array);
@@ -66,9 +66,9 @@ fn shake_hands<S: Source, K: Sink>(
     buffer: &mut [u8],
     input: &mut S,
     output: &mut K,
-) -> Result<Option<Place>, NbdFault>
+) -> Result<Option<MessagePosition>, NbdFault>
     requires room { length buffer.old ≡ ROOM }
-    ensures talks { (rest : (number taken : ℕ) → Plan) → TalksTo
+    ensures talks { (rest : (number taken : ℕ) → Program) → TalksTo
         (views S.Source K.Sink)
         (shakes_hands size rest) (after_options result rest)
         input.old input.new output.old output.new }
@@ -92,15 +92,15 @@ fn answer_options<S: Source, K: Sink>(
     buffer: &mut [u8],
     input: &mut S,
     output: &mut K,
-) -> Result<Option<Place>, NbdFault>
+) -> Result<Option<MessagePosition>, NbdFault>
     requires room { length buffer.old ≡ ROOM }
-    ensures talks { (rest : (number taken : ℕ) → Plan) → TalksTo
+    ensures talks { (rest : (number taken : ℕ) → Program) → TalksTo
         (views S.Source K.Sink)
         (options export.now rest LIMIT 2 4) (after_options result rest)
         input.old input.new output.old output.new }
     ensures place { IfOk result (λ place. IfSome place IsPlace) }
 {
-    let mut place = Place {
+    let mut place = MessagePosition {
         number: 2,
         taken: FLAGS_LENGTH as u64,
     };
@@ -132,8 +132,8 @@ fn answer_options<S: Source, K: Sink>(
 
 // Answers requests up to the client's word that it goes, or the end of the input before one.
 fn answer_requests<C: StripeCode, R: Rack, S: Source, K: Sink>(
-    mut place: Place,
-    array: &mut Opened<C>,
+    mut place: MessagePosition,
+    array: &mut ObservedArray<C>,
     rack: &mut R,
     buffer: &mut [u8],
     input: &mut S,
@@ -143,12 +143,12 @@ fn answer_requests<C: StripeCode, R: Rack, S: Source, K: Sink>(
     requires place { IsPlace place }
     requires room { length buffer.old ≡ ROOM }
     requires stay { AllStay hears watchers.old.items }
-    ensures means { (counter : ℕ) → MeansWith
+    ensures means { (counter : ℕ) → ExecutesWith
         (device_view (rack_view R.Rack) hears) (views S.Source K.Sink)
         (requests array.old.member.array.geometry LIMIT place.number place.taken) (Over (status_of result))
         (outside input.old output.old counter) (outside input.new output.new counter)
-        (devices rack.old (IsOpen array.old) watchers.old.items)
-        (devices rack.new (IsOpen array.new) watchers.new.items) }
+        (devices rack.old (Opened array.old) watchers.old.items)
+        (devices rack.new (Opened array.new) watchers.new.items) }
     ensures stay { AllStay hears watchers.new.items }
 {
     let size = array_size(array);

@@ -1,18 +1,18 @@
 // What is taken of a client's messages, and what is put out to it.
 ghost use Rattle.std.specs.Prelude.{◌≡◌, ◌++◌, ◌+◌, ◌*◌, ◌≤◌, ◌<◌, ℕ, List, IfErr, IfOk, drop, length};
-ghost use Rattle.stair_story.specs.Outside.{sink_view, source_view};
-ghost use Rattle.stair_story.specs.Plan.{Over, Plan, Put};
-ghost use Rattle.stair_story.specs.Talks.{PutsTo, TakesTo};
+ghost use Rattle.stair_command.specs.Outside.{sink_view, source_view};
+ghost use Rattle.stair_command.specs.Program.{Over, Program, Put};
+ghost use Rattle.stair_command.specs.Talks.{PutsTo, TakesTo};
 ghost use Rattle.stair_nbd.specs.Client.{status_of, takes_data, takes_header, too_late as comes_too_late};
 ghost use Rattle.stair_nbd.specs.Sessions.{BLOCKS, TakesData, after_data, after_done, after_header, data_of};
 ghost use Rattle.stair_nbd.specs.Wire.{simple_reply as header_of};
 
 use crate::fault::NbdFault;
-use crate::place::Place;
+use crate::place::MessagePosition;
 use crate::reply::Reply;
 use crate::wire::{REPLY_LENGTH, REQUEST_LENGTH, Request, simple_reply};
+use stair_command::{Filled, put_all, take_at_least};
 use stair_rack::{Sink, Source};
-use stair_story::{Filled, put_all, take_at_least};
 
 /// A request has so many bytes of data at most.
 pub(crate) const DATA_LIMIT: u32 = 1 << 25;
@@ -20,7 +20,7 @@ pub(crate) const DATA_LIMIT: u32 = 1 << 25;
 /// Takes a header whole. It tells whether there was one: the input may end before it.
 pub(crate) fn take_header<S: Source>(input: &mut S, header: &mut [u8]) -> Result<bool, NbdFault>
     requires { 0 < length header.old }
-    ensures { (k : List ℕ → Plan) → TakesTo (source_view S.Source)
+    ensures { (k : List ℕ → Program) → TakesTo (source_view S.Source)
         (takes_header (length header.old) k) (after_header result header.new k)
         input.old input.new }
 {
@@ -44,7 +44,7 @@ pub(crate) fn take_data<S: Source>(
 ) -> Result<(), NbdFault>
     requires short { header ≤ 28 }
     requires fits { length into.old < 4294967296 }
-    ensures { (k : List ℕ → Plan) → TakesTo (source_view S.Source)
+    ensures { (k : List ℕ → Program) → TakesTo (source_view S.Source)
         (takes_data header (length into.old) k) (after_data result into.new k)
         input.old input.new }
 {
@@ -71,7 +71,7 @@ pub(crate) fn drop_data<S: Source>(
 ) -> Result<(), NbdFault>
     requires short { header ≤ 28 }
     requires room { length buffer.old ≡ BLOCKS }
-    ensures { (bytes : List ℕ) × ((k : List ℕ → Plan) →
+    ensures { (bytes : List ℕ) × ((k : List ℕ → Program) →
         TakesTo (source_view S.Source)
         (takes_data header count k) (after_data result bytes k)
         input.old input.new) }
@@ -119,7 +119,7 @@ pub(crate) fn take_request_data<S: Source>(
 }
 
 /// Looks for the end of the input where no message may begin any more.
-pub(crate) fn take_end<S: Source>(input: &mut S, place: Place) -> Result<(), NbdFault>
+pub(crate) fn take_end<S: Source>(input: &mut S, place: MessagePosition) -> Result<(), NbdFault>
     ensures { TakesTo (source_view S.Source)
         (comes_too_late place.number) (Over (status_of result)) input.old input.new }
 {
@@ -132,7 +132,7 @@ pub(crate) fn take_end<S: Source>(input: &mut S, place: Place) -> Result<(), Nbd
 
 /// Puts the bytes out.
 pub(crate) fn put<K: Sink>(output: &mut K, bytes: &[u8]) -> Result<(), NbdFault>
-    ensures { (rest : Plan) → PutsTo (sink_view K.Sink)
+    ensures { (rest : Program) → PutsTo (sink_view K.Sink)
         (Put bytes.now rest) (after_done result rest) output.old output.new }
 {
     match put_all(output, bytes) {
@@ -150,7 +150,7 @@ pub(crate) fn put_reply<K: Sink>(
     buffer: &mut [u8],
 ) -> Result<(), NbdFault>
     requires { REPLY_LENGTH + reply.start + reply.length ≤ length buffer.old }
-    ensures { (rest : Plan) → PutsTo (sink_view K.Sink)
+    ensures { (rest : Program) → PutsTo (sink_view K.Sink)
         (Put (header_of reply.error cookie ++ data_of reply (drop REPLY_LENGTH buffer.old)) rest)
         (after_done result rest) output.old output.new }
 {

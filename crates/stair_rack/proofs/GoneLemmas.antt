@@ -4,12 +4,12 @@ use Rattle.std.specs.Prelude.{IsTrue}
 use Rattle.stair_rack.specs.Answers.{IsBesideAttach, Ran, any_call}
 use Rattle.stair_rack.specs.History.{SlotCall}
 use Rattle.stair_rack.specs.RackCounts.{NoneFalls}
-use Rattle.stair_rack.specs.Telling.{IsGone, IsLater, Telling}
+use Rattle.stair_rack.specs.RackState.{IsGone, IsLater, RackState}
 use Rattle.stair_rack.proofs.OfflineLemmas.{held_on, offline_on}
-use Rattle.stair_rack.proofs.TellingLemmas.{gones_wider, honest_before, honest_within}
+use Rattle.stair_rack.proofs.RackStateLemmas.{gones_wider, honest_before, honest_within}
 
 -- a slot that was gone from mid to new was gone in each longer stretch in which no call after new attaches it
-pub is_gone_wider : {allowed : ℕ → SlotCall → Type 0} (old mid new later : Telling) → IsLater old mid → mid.honest ≡ new.honest
+pub is_gone_wider : {allowed : ℕ → SlotCall → Type 0} (old mid new later : RackState) → IsLater old mid → mid.honest ≡ new.honest
     → NoneFalls mid.bads new.bads mid.gones new.gones → IsLater new later → (j : ℕ) → ((c : SlotCall) → allowed j c → IsBesideAttach c)
     → (IsTrue later.honest → Ran allowed new.history later.history) → IsGone j mid new → IsGone j old later
 is_gone_wider {allowed} old mid new later first same within second j beside ran was = record {

@@ -19,6 +19,6 @@ pub mod StandingLemmas
 pub mod ReadLemmas
 pub mod MediumLemmas
 pub mod InTurnLemmas
-pub mod TellingLemmas
+pub mod RackStateLemmas
 pub mod GoneLemmas
 pub mod ReadRuns

@@ -21,6 +21,6 @@ pub mod Stretch
 pub mod Reading
 pub mod EachMedium
 pub mod PlacedInTurn
-pub mod Telling
+pub mod RackState
 pub mod Told
 pub mod Watching

@@ -44,7 +44,7 @@ abbrev pub event_at : Option (List Event) → ℕ → Option Event
 event_at told at = option_and_then (λ events. slice_get events at) told
 
 -- how many events more a watcher waits for: of all kinds, and of one kind where it waits for one besides
-pub record Patience : Type 0 where
+pub record RemainingQuota : Type 0 where
   pub all : ℕ
   pub kind : Option (EventKind × ℕ)
 
@@ -54,7 +54,7 @@ pub record Heard : Type 0 where
   pub told : Option (List Event)
   pub count : EventKind → ℕ
   pub left : Bool
-  pub patience : Option Patience
+  pub remaining_quota : Option RemainingQuota
 
 -- how watchers are seen: what each of them tells
 abbrev pub WatcherView : Type 0 → Type 0
@@ -62,34 +62,34 @@ WatcherView W = W → Heard
 
 -- one that is given member by member
 abbrev pub watcher_view : {W : Type 0} → (W → Option (List Event)) → (W → EventKind → ℕ) →
-    (W → Bool) → (W → Option Patience) → WatcherView W
-watcher_view told count left patience w =
-    record { told = told w; count = count w; left = left w; patience = patience w }
+    (W → Bool) → (W → Option RemainingQuota) → WatcherView W
+watcher_view told count left remaining_quota w =
+    record { told = told w; count = count w; left = left w; remaining_quota = remaining_quota w }
 
 -- so many of a kind less
 abbrev pub less_of : List Event → EventKind × ℕ → EventKind × ℕ
 less_of events waits = (waits.0, waits.1 - count_of waits.0 events)
 
--- the patience of a watcher that was told these events
-abbrev pub less : List Event → Patience → Patience
-less events patience = record {
-  all = patience.all - length events;
-  kind = option_map (less_of events) patience.kind;
+-- the remaining quota of a watcher that was told these events
+abbrev pub less : List Event → RemainingQuota → RemainingQuota
+less events remaining_quota = record {
+  all = remaining_quota.all - length events;
+  kind = option_map (less_of events) remaining_quota.kind;
 }
 
 -- a watcher waits for more than these events, in all and of its kind
-abbrev pub IsPatient : List Event → Patience → Type 0
-IsPatient events patience = (length events < patience.all)
-    × IfSome patience.kind (λ waits. count_of waits.0 events < waits.1)
+abbrev pub IsPatient : List Event → RemainingQuota → Type 0
+IsPatient events remaining_quota = (length events < remaining_quota.all)
+    × IfSome remaining_quota.kind (λ waits. count_of waits.0 events < waits.1)
 
 -- A watcher was told these events: its list grows by them, each count by those of its kind, and it waits for so many less.
 pub record Hears {W : Type 0} (view : WatcherView W) (events : List Event) (old new : W) : Type 0 where
   pub list : (view new).told ≡ option_map (λ told. told ++ events) (view old).told
   pub counts : (kind : EventKind) → (view new).count kind ≡ (view old).count kind + count_of kind events
-  pub waits : (view new).patience ≡ option_map (less events) (view old).patience
+  pub waits : (view new).remaining_quota ≡ option_map (less events) (view old).remaining_quota
 
--- A watcher that tells its patience left at this event exactly where it was the last that it waited for.
+-- A watcher that tells its remaining quota left at this event exactly where it was the last that it waited for.
 pub record HearsOne {W : Type 0} (view : WatcherView W) (one : Event) (old new : W) : Type 0 where
   pub hears : Hears view (one ∷ []) old new
-  pub leaves : IfSome (view old).patience (λ patience.
-      ((view new).left ≡ false) ↔ IsPatient (one ∷ []) patience)
+  pub leaves : IfSome (view old).remaining_quota (λ remaining_quota.
+      ((view new).left ≡ false) ↔ IsPatient (one ∷ []) remaining_quota)

@@ -40,7 +40,7 @@ pub(crate) fn pass_over<R: Rack>(rack: &mut R, to: Slots, pass: Pass) -> Slots
 // Does it on one slot.
 fn turn<R: Rack>(rack: &mut R, slot: u8, pass: &Pass) -> Reply
     requires { slot < 32 }
-    ensures told { IsTrue R.is_honest →
+    ensures does { IsTrue R.is_honest →
         Calls (R.history rack.old) (R.history rack.new) slot (call_of pass.now result) }
     ensures counts { NoneFalls (R.bads rack.old) (R.bads rack.new) (R.gones rack.old)
         (R.gones rack.new) }

@@ -12,7 +12,7 @@ use stair_base::Slots;
 /// Ends a phase some of whose slots, those of `gone`, were gone to their writes: syncs the others of `to`, in rising
 /// order, and answers all that were gone.
 pub fn sync_rest<R: Rack>(rack: &mut R, to: Slots, gone: Slots) -> Slots
-    ensures told { IsTrue R.is_honest →
+    ensures does { IsTrue R.is_honest →
         EndsPhase to gone result (R.history rack.old) (R.history rack.new) }
     ensures gone { (j : ℕ) → HasSlot result j →
         HasSlot gone j ⊎ (HasSlot to j × Rose (R.gones rack.old j) (R.gones rack.new j)) }

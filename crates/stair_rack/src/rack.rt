@@ -62,7 +62,7 @@ pub trait Rack {
     fn attach(&mut self, slot: u8) -> Reply
         requires { slot < 32 }
         ensures began { IsTrue is_honest → IsHistory (history self.old) }
-        ensures told { IsTrue is_honest →
+        ensures does { IsTrue is_honest →
             Calls (history self.old) (history self.new) slot (Attach result) }
         ensures counts { NoneFalls (bads self.old) (bads self.new) (gones self.old)
             (gones self.new) }
@@ -74,7 +74,7 @@ pub trait Rack {
     fn sectors(&mut self, slot: u8) -> u32
         requires { slot < 32 }
         ensures began { IsTrue is_honest → IsHistory (history self.old) }
-        ensures told { IsTrue is_honest →
+        ensures does { IsTrue is_honest →
             Calls (history self.old) (history self.new) slot (Sectors result) }
         ensures counts { NoneFalls (bads self.old) (bads self.new) (gones self.old)
             (gones self.new) }
@@ -88,7 +88,7 @@ pub trait Rack {
     fn read(&mut self, slot: u8, sector: u32, into: &mut [u8; SECTOR]) -> Got
         requires { slot < 32 }
         ensures began { IsTrue is_honest → IsHistory (history self.old) }
-        ensures told { IsTrue is_honest →
+        ensures does { IsTrue is_honest →
             Calls (history self.old) (history self.new) slot (Read sector result) }
         ensures good { IsTrue is_honest → result ≡ Got.Good →
             content ((slot_state (history self.new) slot).sector sector) ≡ Good into.new }
@@ -108,7 +108,7 @@ pub trait Rack {
     fn write(&mut self, slot: u8, sector: u32, from: &[u8; SECTOR]) -> Reply
         requires { slot < 32 }
         ensures began { IsTrue is_honest → IsHistory (history self.old) }
-        ensures told { IsTrue is_honest →
+        ensures does { IsTrue is_honest →
             Calls (history self.old) (history self.new) slot (Write sector from.now result) }
         ensures counts { NoneFalls (bads self.old) (bads self.new) (gones self.old)
             (gones self.new) }
@@ -123,7 +123,7 @@ pub trait Rack {
     fn sync(&mut self, slot: u8) -> Reply
         requires { slot < 32 }
         ensures began { IsTrue is_honest → IsHistory (history self.old) }
-        ensures told { IsTrue is_honest →
+        ensures does { IsTrue is_honest →
             Calls (history self.old) (history self.new) slot (Sync result) }
         ensures counts { NoneFalls (bads self.old) (bads self.new) (gones self.old)
             (gones self.new) }

@@ -13,7 +13,7 @@ use stair_base::Slots;
 ///
 /// A slot that is gone doesn't end the pass. On a slot that isn't answered a crash leaves all that was written so far.
 pub fn sync_all<R: Rack>(rack: &mut R, to: Slots) -> Slots
-    ensures told { IsTrue R.is_honest →
+    ensures does { IsTrue R.is_honest →
         Settled to result (R.history rack.old) (R.history rack.new) }
     ensures gone { (j : ℕ) → HasSlot result j →
         HasSlot to j × Rose (R.gones rack.old j) (R.gones rack.new j) }

@@ -16,7 +16,7 @@ use stair_base::SECTOR;
 pub fn write_through<R: Rack>(rack: &mut R, slot: u8, sector: u32, from: &[u8; SECTOR]) -> Reply
     requires { slot < 32 }
     ensures began { IsTrue R.is_honest → IsHistory (R.history rack.old) }
-    ensures told { IsTrue R.is_honest →
+    ensures does { IsTrue R.is_honest →
         Placed (one_write slot sector from.now) (IsSlot slot) (IsGoneSlot slot result)
         (R.history rack.old) (R.history rack.new) }
     ensures counts { NoneFalls (R.bads rack.old) (R.bads rack.new) (R.gones rack.old)

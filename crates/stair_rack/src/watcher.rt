@@ -60,7 +60,7 @@ pub enum Next {
 
 /// Someone who is told of events, one by one, until it leaves.
 ///
-/// A watcher counts what it was told. It may tell contracts the list of these events, and its patience: how many events more
+/// A watcher counts what it was told. It may tell contracts the list of these events, and its remaining quota: how many events more
 /// it waits for, of all kinds and, where it waits for one kind besides, of that kind. It then leaves exactly at the event by
 /// which one of these numbers is reached.
 pub trait Watcher: Drop {
@@ -86,5 +86,5 @@ pub trait Watcher: Drop {
         ensures { result ≡ event_at (hears self.now).told at };
 
     // One that hasn't left waits for an event more at least.
-    ghost waits: { (w : Self) → (hears w).left ≡ false → IfSome (hears w).patience (IsPatient []) };
+    ghost waits: { (w : Self) → (hears w).left ≡ false → IfSome (hears w).remaining_quota (IsPatient []) };
 }

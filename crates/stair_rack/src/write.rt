@@ -14,7 +14,7 @@ use stair_base::{SECTOR, Slots};
 /// A slot that is gone doesn't end the pass. On a slot that isn't answered the sector reads as `from`; it is safe from
 /// a crash once the slot was synced. On one that is answered nothing was written.
 pub fn write_all<R: Rack>(rack: &mut R, to: Slots, sector: u32, from: &[u8; SECTOR]) -> Slots
-    ensures told { IsTrue R.is_honest →
+    ensures does { IsTrue R.is_honest →
         Wrote to result sector from.now (R.history rack.old) (R.history rack.new) }
     ensures gone { (j : ℕ) → HasSlot result j →
         HasSlot to j × Rose (R.gones rack.old j) (R.gones rack.new j) }

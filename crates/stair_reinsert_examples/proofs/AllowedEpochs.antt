@@ -15,7 +15,7 @@ use Rattle.stair_member.specs.Editions.{Edition, copy_of}
 use Rattle.stair_state.specs.Blocks.{AreEncodingsOf, Codewords, zero_blocks}
 use Rattle.stair_state.specs.Reassembly.{InSlot, IsMediumOf, Location, Outside}
 use Rattle.stair_state.proofs.AloneLemmas.{IsImageTidy}
-use Rattle.stair_return.specs.Misled.{device_cell, device_of, five}
+use Rattle.stair_reinsert.specs.Misled.{device_cell, device_of, five}
 use Rattle.stair_reinsert_examples.specs.Refused.{IsAllowed, all_live, drawn, dropped, fence_on_first, first_pulled, put_back, replaced}
 use Rattle.stair_reinsert_examples.proofs.FiveConsistent.{inside, made_tidy}
 use Rattle.stair_reinsert_examples.proofs.FiveDevices.{chunk_cell, gate_cell, place_cell}

@@ -24,13 +24,13 @@ use Rattle.stair_journal.proofs.GateLemmas.{closed, once}
 use Rattle.stair_state.specs.Blocks.{AreEncodingsOf, Codewords, with_blocks, zero_blocks}
 use Rattle.stair_state.specs.Degraded.{AreDamagedCopies}
 use Rattle.stair_state.specs.Forms.{HaveBody, IsInRedo, IsOpen, Uncommitted}
-use Rattle.stair_state.specs.Holding.{HolderReserved, Holders, IsBorneSince, IsConsistentBy, IsConsistentUnderReassembly}
+use Rattle.stair_state.specs.Holding.{CurrentMediumReserved, CurrentMedia, IsBorneSince, IsConsistentBy, IsConsistentUnderReassembly}
 use Rattle.stair_state.specs.Reassembly.{IsBorne, IsMediumOf, IsReassembly, Location}
 use Rattle.stair_state.specs.Represents.{Encodings}
 use Rattle.stair_state.proofs.AloneLemmas.{IsImageTidy, each_left, steady_made}
 use Rattle.stair_state.proofs.FormLemmas.{good_before}
 use Rattle.stair_state.proofs.ReassembledLemmas.{IsBorneFrom, from_slot}
-use Rattle.stair_return.specs.Misled.{five}
+use Rattle.stair_reinsert.specs.Misled.{five}
 use Rattle.stair_reinsert_examples.specs.Refused.{IsAllowed, all_live, doubted, first_pulled, whole_redo, without_first, writing, writing_cell, writing_device}
 use Rattle.stair_reinsert_examples.proofs.AllowedEpochs.{few_first, first_formed, has_first, only_first, past_down}
 use Rattle.stair_reinsert_examples.proofs.FiveDevices.{five_limits}
@@ -257,28 +257,28 @@ module _ (old new : Codewords) where
     abbrev encodings : Encodings (doubted first second)
     encodings = record { old = old; new = new; old_are = old_are; new_are = new_are }
 
-    abbrev holders : Holders
-    holders j = Some (joined_in all_live.array j)
+    abbrev current_media : CurrentMedia
+    current_media j = Some (joined_in all_live.array j)
 
-    reserved : AllBut 5 2 (HolderReserved five holders pulled)
+    reserved : AllBut 5 2 (CurrentMediumReserved five current_media pulled)
     reserved = record {
       exceptions = no_slots;
       formed = refl;
       few = omega (arith, slot_count_none no_slots (λ j small has. false≢true (sym (has_slot-none j) ∙ has)));
-      others = λ j below out joined holder q m x is super slot geometry same one two i p t borne.
+      others = λ j below out joined current_medium q m x is super slot geometry same one two i p t borne.
           let draw : x.draw ≡ 4 =
           ap (λ (y : Superblock). y.draw) (bears_own m all_live j x (writing_there j q m is).both (super_bears x super slot geometry)) in
           let epoch : t.array.epoch ≡ 4 = ap (λ (c : Configuration). c.epoch) (own_array i p t borne) in
           omega (arith, draw, epoch);
     }
 
-    by_holders : IsConsistentBy (doubted first second) encodings holders 4 pulled
-    by_holders = record {
+    by_current_media : IsConsistentBy (doubted first second) encodings current_media 4 pulled
+    by_current_media = record {
       overtaken = λ i p a borne earlier.
           let epoch : a.array.epoch ≡ 4 = ap (λ (c : Configuration). c.epoch) (own_array i p a borne) in absurd (omega (arith, epoch, earlier));
       reserved = reserved;
       live = λ j a borne marked. ap (λ (c : Configuration). Some (joined_in c j)) (sym (since_own a borne));
-      rebuilt = λ j joined a borne marked holder.
+      rebuilt = λ j joined a borne marked current_medium.
           absurd (never_rebuilt j (sym (ap (λ (c : Configuration). mark_in c j) (since_own a borne)) ∙ marked));
       frozen = λ a borne. inl (ap (λ (c : Configuration). c.frozen) (since_own a borne));
       label = λ a borne. inl (ap (λ (c : Configuration). c.label) (since_own a borne));
@@ -295,8 +295,8 @@ module _ (old new : Codewords) where
                   inl (subst (λ (x : Redo). IsInRedo x t i k) (sym (one_open to j redo (is j on) opened)) (in_redo t i k t_in i_in k_in));
             });
           };
-      full = λ to j reassembly holder k small.
-          ap (λ (o : Option ℕ). has_sector o k) (held to j holder.super reassembly holder.bears).size ∙ lt-ltb k 9 small;
+      full = λ to j reassembly current_medium k small.
+          ap (λ (o : Option ℕ). has_sector o k) (held to j current_medium.super reassembly current_medium.bears).size ∙ lt-ltb k 9 small;
       rebuilding = λ to j a b redo reassembly borne marked bears same.
           absurd (never_rebuilt j (sym (ap (λ (c : Configuration). mark_in c j) (since_own a borne)) ∙ marked));
       one_list = λ i j p q a b one two same. own_array i p a one ∙ sym (own_array j q b two);
@@ -305,11 +305,11 @@ module _ (old new : Codewords) where
 
     pub doubted_consistent : IsConsistentUnderReassembly (doubted first second) (Made pulled ∷ [])
     doubted_consistent = record {
-      holders = holders;
+      current_media = current_media;
       since = 4;
       is = record {
         encodings = encodings;
-        each = each_left pulled (all_tidy all_live) (IsConsistentBy (doubted first second) encodings holders 4) by_holders;
+        each = each_left pulled (all_tidy all_live) (IsConsistentBy (doubted first second) encodings current_media 4) by_current_media;
         seats = tt;
         steady = steady_made five pulled;
       };

@@ -13,10 +13,10 @@ use Rattle.stair_super.specs.declared.configuration.Configuration.{Configuration
 use Rattle.stair_super.specs.declared.mark.Mark.TheVariants.{Down, Live}
 use Rattle.stair_member.specs.Editions.{Edition, copy_of}
 use Rattle.stair_state.specs.Blocks.{Codewords}
-use Rattle.stair_state.specs.Holding.{Holders}
+use Rattle.stair_state.specs.Holding.{CurrentMedia}
 use Rattle.stair_state.specs.Tolerance.{IsTolerated, IsWithinTolerance}
-use Rattle.stair_return.specs.Misled.{cut_fence, device_of, empty_after, five, looked_at, made_of, read_and_pulled}
-use Rattle.stair_return.specs.Still.{IsStill}
+use Rattle.stair_reinsert.specs.Misled.{cut_fence, device_of, empty_after, five, looked_at, made_of, read_and_pulled}
+use Rattle.stair_reinsert.specs.Still.{IsStill}
 use Rattle.stair_reinsert_examples.proofs.FiveConsistent.{IsCut}
 use Rattle.stair_reinsert_examples.proofs.FiveCounted.{Stands, stands_still, tolerated}
 use Rattle.stair_reinsert_examples.proofs.FiveDevices.{AreEditions, IsWithin, tolerates}
@@ -74,8 +74,8 @@ module _ (words : Codewords) where
 
   -- IT IS CONSISTENT
 
-  abbrev pub holders : Holders
-  holders j = Some (joined_in (cut_fence 1).array j)
+  abbrev pub current_media : CurrentMedia
+  current_media j = Some (joined_in (cut_fence 1).array j)
 
   pub epochs : (j : ℕ) → (4 ≤ (cut_fence j).array.epoch) × ((cut_fence j).array.epoch ≤ 5) × ((cut_fence j).array.frozen ≡ false)
       × ((cut_fence j).array.label ≡ [])
@@ -139,7 +139,7 @@ module _ (words : Codewords) where
   unfolding sum_below
   few_down = let two : slot_count down ≡ 2 = refl in omega (arith, two)
 
-  pub cut : IsCut words cut_fence holders 4
+  pub cut : IsCut words cut_fence current_media 4
   cut = record {
     least = λ j below. (epochs j).0;
     drawn = record {

@@ -14,11 +14,11 @@ use Rattle.stair_super.specs.declared.configuration.Configuration.{Configuration
 use Rattle.stair_super.specs.declared.mark.Mark.TheVariants.{Down, Live}
 use Rattle.stair_member.specs.Editions.{copy_of}
 use Rattle.stair_state.specs.Blocks.{Codewords}
-use Rattle.stair_state.specs.Holding.{Holders}
+use Rattle.stair_state.specs.Holding.{CurrentMedia}
 use Rattle.stair_state.specs.Tolerance.{IsTolerated}
-use Rattle.stair_return.specs.Counted.{IsToleratedCounted}
-use Rattle.stair_return.specs.Misled.{device_of, five, looked_at, made_of, only_pulled, two_fences}
-use Rattle.stair_return.specs.Still.{IsLook, IsStill}
+use Rattle.stair_reinsert.specs.Counted.{IsToleratedCounted}
+use Rattle.stair_reinsert.specs.Misled.{device_of, five, looked_at, made_of, only_pulled, two_fences}
+use Rattle.stair_reinsert.specs.Still.{IsLook, IsStill}
 use Rattle.stair_reinsert_examples.proofs.CutPromotion.{failed, few_failed, many_stand, stand, stand_kept}
 use Rattle.stair_reinsert_examples.proofs.FiveConsistent.{IsCut}
 use Rattle.stair_reinsert_examples.proofs.FiveCounted.{Stands, counted as counted_throughout, each_act, each_still, stands_still, tolerated_at as tolerated_throughout}
@@ -64,8 +64,8 @@ module _ (words : Codewords) where
 
   -- IT IS CONSISTENT
 
-  abbrev pub holders : Holders
-  holders j = Some (joined_in (two_fences 2).array j)
+  abbrev pub current_media : CurrentMedia
+  current_media j = Some (joined_in (two_fences 2).array j)
 
   -- what holds of the three epochs holds of each slot's
   by_epoch : (P : Configuration → Type 0) → P (two_fences 0).array → P (two_fences 1).array → P (two_fences 2).array → (j : ℕ) → j < 5
@@ -112,7 +112,7 @@ module _ (words : Codewords) where
   unfolding sum_below
   few_undrawn = let one : slot_count undrawn ≡ 1 = refl in omega (arith, one)
 
-  pub cut : IsCut words two_fences holders 4
+  pub cut : IsCut words two_fences current_media 4
   cut = record {
     least = by_epoch (λ x. 4 ≤ x.epoch) (omega arith) (omega arith) (omega arith);
     drawn = record {

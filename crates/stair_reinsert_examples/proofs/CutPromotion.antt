@@ -12,11 +12,11 @@ use Rattle.stair_super.specs.Superblock.{IsSuperblock, joined_in, mark_in}
 use Rattle.stair_super.specs.declared.mark.Mark.TheVariants.{Down, Live, Rebuilding}
 use Rattle.stair_member.specs.Editions.{Edition, copy_of}
 use Rattle.stair_state.specs.Blocks.{Codewords}
-use Rattle.stair_state.specs.Holding.{Holders}
+use Rattle.stair_state.specs.Holding.{CurrentMedia}
 use Rattle.stair_state.specs.Tolerance.{IsTolerated}
-use Rattle.stair_return.specs.Counted.{IsToleratedCounted}
-use Rattle.stair_return.specs.Misled.{cut_promotion, device_of, empty_after, five, looked_at, made_of, one_after_the_other}
-use Rattle.stair_return.specs.Still.{IsStill}
+use Rattle.stair_reinsert.specs.Counted.{IsToleratedCounted}
+use Rattle.stair_reinsert.specs.Misled.{cut_promotion, device_of, empty_after, five, looked_at, made_of, one_after_the_other}
+use Rattle.stair_reinsert.specs.Still.{IsStill}
 use Rattle.stair_reinsert_examples.proofs.FiveConsistent.{IsCut}
 use Rattle.stair_reinsert_examples.proofs.FiveCounted.{Stands, each_act, each_still, stands_still, counted as counted_throughout, tolerated_at as tolerated_throughout}
 use Rattle.stair_reinsert_examples.proofs.FiveDevices.{AreEditions}
@@ -83,8 +83,8 @@ module _ (words : Codewords) where
 
   -- IT IS CONSISTENT
 
-  abbrev pub holders : Holders
-  holders j = Some (joined_in (cut_promotion 0).array j)
+  abbrev pub current_media : CurrentMedia
+  current_media j = Some (joined_in (cut_promotion 0).array j)
 
   pub epochs : (j : ℕ) → (4 ≤ (cut_promotion j).array.epoch) × ((cut_promotion j).array.epoch ≤ 5) × ((cut_promotion j).draw ≡ 5)
   epochs j =
@@ -132,7 +132,7 @@ module _ (words : Codewords) where
             ]
       ]
 
-  pub cut : IsCut words cut_promotion holders 4
+  pub cut : IsCut words cut_promotion current_media 4
   cut = record {
     least = λ j below. (epochs j).0;
     drawn = record {

@@ -27,9 +27,9 @@ use Rattle.stair_state.specs.Blocks.{AreEncodingsOf, Codewords, zero_blocks}
 use Rattle.stair_state.specs.Degraded.{AreAllDamaged}
 use Rattle.stair_state.specs.Tolerance.{IsToleratedAlone}
 use Rattle.stair_state.proofs.OutsideLemmas.{slot_now, slot_now_left}
-use Rattle.stair_session.specs.Mixed.{WasOffline}
-use Rattle.stair_return.specs.Misled.{Emptied, IsMisled, IsToleratedAtWorst, IsWorstSlot, Left, cut_fence, empty_after, five, read_and_pulled, rack_of}
-use Rattle.stair_reinsert_examples.proofs.CutFence.{are, at, cut, draws, holders, live_then, newest_second, pulled, r0, r1, r3, r4, r5, r7, s7, tolerated_at, tolerates_pulled}
+use Rattle.stair_invariant.specs.Mixed.{WasOffline}
+use Rattle.stair_reinsert.specs.Misled.{Emptied, IsMisled, IsToleratedAtWorst, IsWorstSlot, Left, cut_fence, empty_after, five, read_and_pulled, rack_of}
+use Rattle.stair_reinsert_examples.proofs.CutFence.{are, at, cut, draws, current_media, live_then, newest_second, pulled, r0, r1, r3, r4, r5, r7, s7, tolerated_at, tolerates_pulled}
 use Rattle.stair_reinsert_examples.proofs.FiveConsistent.{inside, made_consistent}
 use Rattle.stair_reinsert_examples.proofs.FiveDevices.{IsDevice, IsWithin, Shows, current, identity}
 use Rattle.stair_reinsert_examples.proofs.FiveMoments.{GoesOn, HoldsDevice, made_holds, online, settles}
@@ -165,7 +165,7 @@ module _ (words : Codewords) where
 
   pub misled : AreEncodingsOf five zero_blocks words → IsMisled (rack_of words cut_fence) (read_and_pulled words)
   misled encoded = record {
-    consistent = made_consistent words cut_fence (are words) encoded (holders words) 4 (cut words);
+    consistent = made_consistent words cut_fence (are words) encoded (current_media words) 4 (cut words);
     tolerated = tolerated_at words;
     whys = whys;
     gones = gones words cut_fence gone refl new;

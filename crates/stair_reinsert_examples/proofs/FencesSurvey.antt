@@ -19,8 +19,8 @@ use Rattle.stair_member.specs.declared.fault.SurveyFault.TheVariants.{TooFew}
 use Rattle.stair_member.specs.declared.why.Why.{Why}
 use Rattle.stair_member.specs.declared.why.Why.TheVariants as why
 use Rattle.stair_state.specs.Blocks.{AreEncodingsOf, Codewords, zero_blocks}
-use Rattle.stair_return.specs.Misled.{IsMisled, empty_after, five, only_pulled, rack_of, two_fences}
-use Rattle.stair_reinsert_examples.proofs.CutFences.{are, cut, draws, holders, q0, q1, q4, q5, q6, q7, s7, tolerated_at}
+use Rattle.stair_reinsert.specs.Misled.{IsMisled, empty_after, five, only_pulled, rack_of, two_fences}
+use Rattle.stair_reinsert_examples.proofs.CutFences.{are, cut, draws, current_media, q0, q1, q4, q5, q6, q7, s7, tolerated_at}
 use Rattle.stair_reinsert_examples.proofs.CutPromotion.{failed, many_stand, stand}
 use Rattle.stair_reinsert_examples.proofs.FiveConsistent.{made_consistent}
 use Rattle.stair_reinsert_examples.proofs.FiveDevices.{IsDevice, Shows, current, identity}
@@ -145,7 +145,7 @@ module _ (words : Codewords) where
 
   pub misled : AreEncodingsOf five zero_blocks words → IsMisled (rack_of words two_fences) (only_pulled words)
   misled encoded = record {
-    consistent = made_consistent words two_fences (are words) encoded (holders words) 4 (cut words);
+    consistent = made_consistent words two_fences (are words) encoded (current_media words) 4 (cut words);
     tolerated = tolerated_at words;
     whys = whys;
     gones = gones words two_fences gone refl new;

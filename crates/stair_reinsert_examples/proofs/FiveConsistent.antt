@@ -20,14 +20,14 @@ use Rattle.stair_journal.proofs.GateLemmas.{closed}
 use Rattle.stair_state.specs.Blocks.{AreEncodingsOf, Codewords, zero_blocks}
 use Rattle.stair_state.specs.Degraded.{AreDamagedCopies}
 use Rattle.stair_state.specs.Forms.{IdleOld}
-use Rattle.stair_state.specs.Holding.{HolderReserved, Holders, IsBorneSince, IsConsistentBy, IsConsistentUnderReassembly}
+use Rattle.stair_state.specs.Holding.{CurrentMediumReserved, CurrentMedia, IsBorneSince, IsConsistentBy, IsConsistentUnderReassembly}
 use Rattle.stair_state.specs.Reassembly.{InSlot, IsBorne, IsMediumOf, IsReassembly, Location, Outside}
 use Rattle.stair_state.specs.Represents.{Encodings}
 use Rattle.stair_state.specs.State.{State, created_state, without_seats}
 use Rattle.stair_state.proofs.AloneLemmas.{IsImageTidy, each_left, steady_made}
 use Rattle.stair_state.proofs.FormLemmas.{good_whole}
 use Rattle.stair_state.proofs.ReassembledLemmas.{IsBorneFrom, from_slot}
-use Rattle.stair_return.specs.Misled.{device_cell, five, rack_of}
+use Rattle.stair_reinsert.specs.Misled.{device_cell, five, rack_of}
 use Rattle.stair_reinsert_examples.proofs.FiveDevices.{AreEditions, Bare, InPlace, IsDevice, Shows, borne_own, chunk_cell, gate_cell, past_cell}
 
 -- the array
@@ -76,16 +76,16 @@ module _ (words : Codewords) (editions : ℕ → Edition) where
       ]
 
   -- What an epoch leaves that was cut: `since` still stands, and a later one may be on some.
-  pub record IsCut (holders : Holders) (since : ℕ) : Type 0 where
+  pub record IsCut (current_media : CurrentMedia) (since : ℕ) : Type 0 where
     pub least : (j : ℕ) → j < 5 → since ≤ (editions j).array.epoch
     pub drawn : AllBut 5 2 (λ j. (i : ℕ) → i < 5 → (editions i).array.epoch ≤ (editions j).draw)
-    pub held : (i j : ℕ) → i < 5 → mark_in (editions i).array j ≢ Down → holders j ≡ Some (joined_in (editions i).array j)
+    pub held : (i j : ℕ) → i < 5 → mark_in (editions i).array j ≢ Down → current_media j ≡ Some (joined_in (editions i).array j)
     pub frozen : (j : ℕ) → j < 5 → (editions j).array.frozen ≡ false
     pub label : (j : ℕ) → j < 5 → (editions j).array.label ≡ []
     pub one : (i j : ℕ) → i < 5 → j < 5 → (editions i).array.epoch ≡ (editions j).array.epoch → (editions i).array ≡ (editions j).array
 
-  module _ (are : AreEditions words editions) (encoded : AreEncodingsOf five zero_blocks words) (holders : Holders) (since : ℕ)
-      (cut : IsCut holders since) where
+  module _ (are : AreEditions words editions) (encoded : AreEncodingsOf five zero_blocks words) (current_media : CurrentMedia) (since : ℕ)
+      (cut : IsCut current_media since) where
     -- WHAT IS BORNE
 
     record IsOwn (i : ℕ) (p : Location) (a : Superblock) : Type 0 where
@@ -161,21 +161,21 @@ module _ (words : Codewords) (editions : ℕ → Edition) where
     since_own a borne = (borne.slot, (own borne.slot borne.place a borne.borne).below, array_of borne.slot borne.place a borne.borne)
 
     -- a slot that isn't marked Down has the holder that is meant
-    held_since : (a : Superblock) → IsBorneSince five since image a → (j : ℕ) → mark_at a j ≢ Down → holders j ≡ Some (joined_at a j)
+    held_since : (a : Superblock) → IsBorneSince five since image a → (j : ℕ) → mark_at a j ≢ Down → current_media j ≡ Some (joined_at a j)
     held_since a borne j up =
         let it = since_own a borne in
         cut.held it.0 j it.1 (λ down. up (ap (λ (c : Configuration). mark_in c j) it.2 ∙ down))
         ∙ ap (λ (c : Configuration). Some (joined_in c j)) (sym it.2)
 
-    by_holders : IsConsistentBy zeros encodings holders since image
-    by_holders = record {
+    by_current_media : IsConsistentBy zeros encodings current_media since image
+    by_current_media = record {
       overtaken = λ i p a borne earlier.
           let least = cut.least i (own i p a borne).below in
           let epoch : a.array.epoch ≡ (editions i).array.epoch = ap (λ (c : Configuration). c.epoch) (array_of i p a borne) in
           absurd (omega (arith, least, epoch, earlier));
       reserved =
-          all_but_mapped {P = λ j. (i : ℕ) → i < 5 → (editions i).array.epoch ≤ (editions j).draw} {Q = HolderReserved five holders image}
-          (λ j below drawn joined holder p medium x is super slot geometry same first second i q t borne.
+          all_but_mapped {P = λ j. (i : ℕ) → i < 5 → (editions i).array.epoch ≤ (editions j).draw} {Q = CurrentMediumReserved five current_media image}
+          (λ j below drawn joined current_medium p medium x is super slot geometry same first second i q t borne.
           let draw : x.draw ≡ (editions j).draw =
           ap (λ (y : Superblock). y.draw) (medium_own j p medium x is (super_bears x super slot geometry)).is in
           let epoch : t.array.epoch ≡ (editions i).array.epoch = ap (λ (c : Configuration). c.epoch) (array_of i q t borne) in
@@ -183,9 +183,9 @@ module _ (words : Codewords) (editions : ℕ → Edition) where
           omega (arith, draw, epoch, upto)) cut.drawn;
       live = λ j a borne marked.
           held_since a borne j (λ down. let never : Live ≡ Down = sym marked ∙ down in cc);
-      rebuilt = λ j joined a borne marked holder.
+      rebuilt = λ j joined a borne marked current_medium.
           let same : Some joined ≡ Some (joined_at a j) =
-          sym holder ∙ held_since a borne j (λ down. let never : Rebuilding ≡ Down = sym marked ∙ down in cc) in
+          sym current_medium ∙ held_since a borne j (λ down. let never : Rebuilding ≡ Down = sym marked ∙ down in cc) in
           cc;
       frozen = λ a borne. let it = since_own a borne in inl (ap (λ (c : Configuration). c.frozen) it.2 ∙ cut.frozen it.0 it.1);
       label = λ a borne. let it = since_own a borne in inl (ap (λ (c : Configuration). c.label) it.2 ∙ cut.label it.0 it.1);
@@ -196,8 +196,8 @@ module _ (words : Codewords) (editions : ℕ → Edition) where
           body = λ j redo on opened. absurd (shut to j (have j on).super reassembly (have j on).bears redo opened);
         });
       };
-      full = λ to j reassembly holder k small.
-          ap (λ (o : Option ℕ). has_sector o k) (copies_of to j holder.super reassembly holder.bears).1 ∙ lt-ltb k 9 small;
+      full = λ to j reassembly current_medium k small.
+          ap (λ (o : Option ℕ). has_sector o k) (copies_of to j current_medium.super reassembly current_medium.bears).1 ∙ lt-ltb k 9 small;
       rebuilding = λ to j a b redo reassembly borne marked bears same. shut to j b reassembly bears redo;
       one_list = λ i j p q a b first second same.
           array_of i p a first
@@ -209,11 +209,11 @@ module _ (words : Codewords) (editions : ℕ → Edition) where
 
     pub made_consistent : IsConsistentUnderReassembly zeros (Made image ∷ [])
     made_consistent = record {
-      holders = holders;
+      current_media = current_media;
       since = since;
       is = record {
         encodings = encodings;
-        each = each_left image made_tidy (IsConsistentBy zeros encodings holders since) by_holders;
+        each = each_left image made_tidy (IsConsistentBy zeros encodings current_media since) by_current_media;
         seats = tt;
         steady = steady_made five image;
       };

@@ -13,9 +13,9 @@ use Rattle.stair_super.specs.declared.mark.Mark.TheVariants.{Live}
 use Rattle.stair_member.specs.Editions.{Edition}
 use Rattle.stair_state.specs.Blocks.{Codewords}
 use Rattle.stair_state.specs.Tolerance.{IsTolerated}
-use Rattle.stair_return.specs.Counted.{HasBorne, IsToleratedCounted}
-use Rattle.stair_return.specs.Misled.{five, made_of}
-use Rattle.stair_return.specs.Still.{IsStill}
+use Rattle.stair_reinsert.specs.Counted.{HasBorne, IsToleratedCounted}
+use Rattle.stair_reinsert.specs.Misled.{five, made_of}
+use Rattle.stair_reinsert.specs.Still.{IsStill}
 use Rattle.stair_reinsert_examples.proofs.FiveDevices.{AreEditions, IsWithin, borne_own, tolerates, tolerates_counting}
 use Rattle.stair_reinsert_examples.proofs.FiveMoments.{GoesOn, IsNow, act_each, goes_still, left_shows, now_still, still_each, within}
 

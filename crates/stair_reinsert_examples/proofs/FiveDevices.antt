@@ -30,8 +30,8 @@ use Rattle.stair_state.specs.Blocks.{Codewords}
 use Rattle.stair_state.specs.Degraded.{AreAllDamaged}
 use Rattle.stair_state.specs.Tolerance.{IsWithinTolerance}
 use Rattle.stair_state.proofs.FormLemmas.{good_kept, good_whole}
-use Rattle.stair_return.specs.Counted.{IsToleratedCounting}
-use Rattle.stair_return.specs.Misled.{device_cell, five}
+use Rattle.stair_reinsert.specs.Counted.{IsToleratedCounting}
+use Rattle.stair_reinsert.specs.Misled.{device_cell, five}
 
 pub five_limits : IsWithinLimits five
 five_limits = record {

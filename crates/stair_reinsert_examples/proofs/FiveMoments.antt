@@ -18,11 +18,11 @@ use Rattle.stair_super.specs.declared.mark.Mark.TheVariants.{Live}
 use Rattle.stair_member.specs.Editions.{Edition}
 use Rattle.stair_state.specs.Blocks.{Codewords}
 use Rattle.stair_state.proofs.AloneLemmas.{made_settled}
-use Rattle.stair_return.specs.Misled.{device_cell, device_of, made_of, rack_of}
-use Rattle.stair_return.specs.Still.{IsStill}
+use Rattle.stair_reinsert.specs.Misled.{device_cell, device_of, made_of, rack_of}
+use Rattle.stair_reinsert.specs.Still.{IsStill}
 use Rattle.stair_reinsert_examples.proofs.FiveConsistent.{inside, made_tidy}
 use Rattle.stair_reinsert_examples.proofs.FiveDevices.{Bare, InPlace, IsDevice, IsWithin, Shows, past_cell}
-use Rattle.stair_return.proofs.StillStretch.{IsSame, still_same}
+use Rattle.stair_reinsert.proofs.StillStretch.{IsSame, still_same}
 
 module _ (words : Codewords) (editions : ℕ → Edition) where
   -- SLOTS

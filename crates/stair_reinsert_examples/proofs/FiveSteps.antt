@@ -16,12 +16,12 @@ use Rattle.stair_rack.proofs.StepLemmas.{slot_after_call}
 use Rattle.stair_member.specs.Asked.{AsksBelow, AsksSlot, LeavesSectors, NotThere, There}
 use Rattle.stair_member.specs.Editions.{Edition}
 use Rattle.stair_state.specs.Blocks.{Codewords}
-use Rattle.stair_return.specs.Misled.{empty_after, looked_at, made_of}
-use Rattle.stair_return.specs.Still.{IsStill}
+use Rattle.stair_reinsert.specs.Misled.{empty_after, looked_at, made_of}
+use Rattle.stair_reinsert.specs.Still.{IsStill}
 use Rattle.stair_reinsert_examples.proofs.FiveDevices.{place_cell}
 use Rattle.stair_reinsert_examples.proofs.FiveMoments.{GoesOn, HoldsDevice, same_holds}
 use Rattle.stair_reinsert_examples.proofs.FiveSurvey.{Asked, WasGone, WasSeen, asked_past, empty_asked, five_cases, tail_ran}
-use Rattle.stair_return.proofs.StillStretch.{still_same}
+use Rattle.stair_reinsert.proofs.StillStretch.{still_same}
 
 one_still : (h : List Happening) (j : ℕ) (c : SlotCall) → LeavesSectors j c → IsStill h (Called j c ∷ h)
 one_still h j c may = record { more = Called j c ∷ []; is = refl; each = (tt, may) }

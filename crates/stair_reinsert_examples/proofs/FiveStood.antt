@@ -25,13 +25,13 @@ use Rattle.stair_journal.proofs.GateLemmas.{closed}
 use Rattle.stair_state.specs.Blocks.{AreEncodingsOf, Codewords, zero_blocks}
 use Rattle.stair_state.specs.Degraded.{AreDamagedCopies}
 use Rattle.stair_state.specs.Forms.{IdleOld}
-use Rattle.stair_state.specs.Holding.{HolderReserved, HasOvertaken, Holders, IsBorneSince, IsConsistentBy, IsConsistentUnderReassembly, IsHolder}
+use Rattle.stair_state.specs.Holding.{CurrentMediumReserved, HasOvertaken, CurrentMedia, IsBorneSince, IsConsistentBy, IsConsistentUnderReassembly, IsCurrentMedium}
 use Rattle.stair_state.specs.Reassembly.{InSlot, IsBorne, IsMediumOf, IsReassembly, Location}
 use Rattle.stair_state.specs.Represents.{Encodings}
 use Rattle.stair_state.proofs.AloneLemmas.{IsImageTidy, each_left, steady_made}
 use Rattle.stair_state.proofs.FormLemmas.{good_whole}
 use Rattle.stair_state.proofs.ReassembledLemmas.{IsBorneFrom, from_slot}
-use Rattle.stair_return.specs.Misled.{five}
+use Rattle.stair_reinsert.specs.Misled.{five}
 use Rattle.stair_reinsert_examples.proofs.FiveConsistent.{zeros}
 
 -- a medium of slot j has its superblock of the edition in both places
@@ -128,16 +128,16 @@ module _ (words : Codewords) (image : Image) (e : Edition) (away : ℕ) (stale :
 
     -- HOLDERS
 
-    abbrev holders : Holders
-    holders j = if j == away then None else Some (joined_in e.array j)
+    abbrev current_media : CurrentMedia
+    current_media j = if j == away then None else Some (joined_in e.array j)
 
-    held : (j : ℕ) → j ≢ away → holders j ≡ Some (joined_in e.array j)
+    held : (j : ℕ) → j ≢ away → current_media j ≡ Some (joined_in e.array j)
     held j other = cond-false _ _ _ (ne_eqb j away other)
 
-    holder_kept : (j joined : ℕ) → holders j ≡ Some joined → j ≢ away
-    holder_kept j joined is same =
-        let none : holders away ≡ Some joined = subst (λ (x : ℕ). holders x ≡ Some joined) same is in
-        let nothing : holders away ≡ None = cond-true _ _ _ (eq-eqb away away refl) in
+    current_medium_kept : (j joined : ℕ) → current_media j ≡ Some joined → j ≢ away
+    current_medium_kept j joined is same =
+        let none : current_media away ≡ Some joined = subst (λ (x : ℕ). current_media x ≡ Some joined) same is in
+        let nothing : current_media away ≡ None = cond-true _ _ _ (eq-eqb away away refl) in
         let both : ◌≡◌ {A = Option ℕ} None (Some joined) = sym nothing ∙ none in
         absurd (cc)
 
@@ -147,12 +147,12 @@ module _ (words : Codewords) (image : Image) (e : Edition) (away : ℕ) (stale :
       each : AreDamagedCopies copies.cell ((to j).cell)
       size : (to j).size ≡ Some 9
 
-    holder_rest : (to : Image) (j : ℕ) → IsReassembly image to → IsHolder five holders j ((to j).cell) → IsKept to j
-    holder_rest to j reassembly holder = by (from_slot five image to j holder.super (reassembly j) holder.bears)
+    current_medium_rest : (to : Image) (j : ℕ) → IsReassembly image to → IsCurrentMedium five current_media j ((to j).cell) → IsKept to j
+    current_medium_rest to j reassembly current_medium = by (from_slot five image to j current_medium.super (reassembly j) current_medium.bears)
       where
-        by : IsBorneFrom five image to j holder.super → IsKept to j
+        by : IsBorneFrom five image to j current_medium.super → IsKept to j
         by from =
-            let rest = stood.kept j from.place from.medium (holder_kept j holder.super.joined holder.joined) from.is_one in
+            let rest = stood.kept j from.place from.medium (current_medium_kept j current_medium.super.joined current_medium.joined) from.is_one in
             record {
               copies = from.medium;
               rest = record { place = refl; both = rest.both; size = rest.size; gate = rest.gate; chunk = rest.chunk };
@@ -199,12 +199,12 @@ module _ (words : Codewords) (image : Image) (e : Edition) (away : ℕ) (stale :
           );
     }
 
-    reserved : AllBut 5 2 (HolderReserved five holders image)
+    reserved : AllBut 5 2 (CurrentMediumReserved five current_media image)
     reserved = record {
       exceptions = alone;
       formed = formed;
       few = few;
-      others = λ j below out joined holder q m x is super slot geometry same first second i p t borne.
+      others = λ j below out joined current_medium q m x is super slot geometry same first second i p t borne.
           omega (
             arith,
             upto i p t borne,
@@ -213,7 +213,7 @@ module _ (words : Codewords) (image : Image) (e : Edition) (away : ℕ) (stale :
           );
     }
 
-    live : (j : ℕ) (a : Superblock) → IsBorneSince five e.array.epoch image a → mark_at a j ≡ Live → holders j ≡ Some (joined_at a j)
+    live : (j : ℕ) (a : Superblock) → IsBorneSince five e.array.epoch image a → mark_at a j ≡ Live → current_media j ≡ Some (joined_at a j)
     live j a borne marked =
         let same = since_own a borne in
         let up : mark_in e.array j ≡ Live = sym (ap (λ (c : Configuration). mark_in c j) same) ∙ marked in
@@ -254,23 +254,23 @@ module _ (words : Codewords) (image : Image) (e : Edition) (away : ℕ) (stale :
     own_joined j p q a b (Kept other place it) (Stale j_is n also too) same = absurd (other j_is)
     own_joined j p q a b (Kept other place it) (Kept others places too) same = place ∙ sym places
 
-    by_holders : IsConsistentBy zeros encodings holders e.array.epoch image
-    by_holders = record {
+    by_current_media : IsConsistentBy zeros encodings current_media e.array.epoch image
+    by_current_media = record {
       overtaken = overtaken;
       reserved = reserved;
       live = live;
-      rebuilt = λ j joined a borne marked holder. absurd (never_rebuilt j a borne marked);
+      rebuilt = λ j joined a borne marked current_medium. absurd (never_rebuilt j a borne marked);
       frozen = λ a borne. inl (ap (λ (c : Configuration). c.frozen) (since_own a borne) ∙ stood.frozen);
       label = λ a borne. inl (ap (λ (c : Configuration). c.label) (since_own a borne) ∙ stood.label);
       forms = λ to some reassembly have gate. record {
-        one_redo = λ i j a b on also open_i open_j. absurd (shut to i (holder_rest to i reassembly (have i on)) a open_i);
+        one_redo = λ i j a b on also open_i open_j. absurd (shut to i (current_medium_rest to i reassembly (have i on)) a open_i);
         form = IdleOld (record {
-          encodes = λ t i j t_in i_in j_in on. encodes to t i j (holder_rest to j reassembly (have j on)) t_in i_in;
-          body = λ j redo on opened. absurd (shut to j (holder_rest to j reassembly (have j on)) redo opened);
+          encodes = λ t i j t_in i_in j_in on. encodes to t i j (current_medium_rest to j reassembly (have j on)) t_in i_in;
+          body = λ j redo on opened. absurd (shut to j (current_medium_rest to j reassembly (have j on)) redo opened);
         });
       };
-      full = λ to j reassembly holder k small.
-          ap (λ (o : Option ℕ). has_sector o k) (holder_rest to j reassembly holder).size ∙ lt-ltb k 9 small;
+      full = λ to j reassembly current_medium k small.
+          ap (λ (o : Option ℕ). has_sector o k) (current_medium_rest to j reassembly current_medium).size ∙ lt-ltb k 9 small;
       rebuilding = λ to j a b redo reassembly borne marked bears same. absurd (never_rebuilt j a borne marked);
       one_list = λ i j p q a b first second same. one_list i j p q a b (own i p a first) (own j q b second) same;
       own_joined = λ j p q a b first second same. own_joined j p q a b (own j p a first) (own j q b second) same;
@@ -278,11 +278,11 @@ module _ (words : Codewords) (image : Image) (e : Edition) (away : ℕ) (stale :
 
     pub stood_consistent : IsConsistentUnderReassembly zeros (Made image ∷ [])
     stood_consistent = record {
-      holders = holders;
+      current_media = current_media;
       since = e.array.epoch;
       is = record {
         encodings = encodings;
-        each = each_left image stood.tidy (IsConsistentBy zeros encodings holders e.array.epoch) by_holders;
+        each = each_left image stood.tidy (IsConsistentBy zeros encodings current_media e.array.epoch) by_current_media;
         seats = tt;
         steady = steady_made five image;
       };

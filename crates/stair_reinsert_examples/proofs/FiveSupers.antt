@@ -10,8 +10,8 @@ use Rattle.stair_super.specs.Superblock.{IsConfiguration, IsJoined, IsSuperblock
 use Rattle.stair_super.specs.declared.mark.Mark.{Mark}
 use Rattle.stair_super.specs.declared.mark.Mark.TheVariants.{Down}
 use Rattle.stair_member.specs.Editions.{copy_of}
-use Rattle.stair_return.specs.Misled.{looked_at, naming}
-use Rattle.stair_return.specs.Still.{IsStill}
+use Rattle.stair_reinsert.specs.Misled.{looked_at, naming}
+use Rattle.stair_reinsert.specs.Still.{IsStill}
 use Rattle.stair_reinsert_examples.proofs.FiveDevices.{five_limits}
 use Rattle.stair_reinsert_examples.proofs.FiveSurvey.{five_cases, past_five}
 

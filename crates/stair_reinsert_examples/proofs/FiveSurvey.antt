@@ -9,7 +9,7 @@ use Rattle.stair_rack.specs.Media.{Image, SlotImage}
 use Rattle.stair_rack.specs.Offline.{IsHeld, IsOffline, NoMedium}
 use Rattle.stair_rack.specs.RackCounts.{IsLaterCount}
 use Rattle.stair_rack.specs.Sector.{Damaged, content}
-use Rattle.stair_rack.specs.Telling.{IsReading, Telling, telling}
+use Rattle.stair_rack.specs.RackState.{IsReading, RackState, rack_state}
 use Rattle.stair_rack.specs.declared.rack.Got.TheVariants as got
 use Rattle.stair_rack.specs.declared.rack.Reply.TheVariants.{Done, Gone}
 use Rattle.stair_rack.proofs.MomentLemmas.{calls_ran, moment_between, ran_any, ran_join, ran_none}
@@ -31,9 +31,9 @@ use Rattle.stair_member.proofs.CountingLemmas.{has_or_not}
 use Rattle.stair_member.proofs.SuperLemmas.{counts_bears, one_super, super_held}
 use Rattle.stair_state.specs.Blocks.{Codewords}
 use Rattle.stair_state.proofs.FormLemmas.{good_whole}
-use Rattle.stair_session.proofs.NewSessionLemmas.{any_entry}
-use Rattle.stair_return.specs.Misled.{device_cell, empty_after, five, made_of, rack_of}
-use Rattle.stair_return.specs.Still.{IsStill}
+use Rattle.stair_invariant.proofs.NewSessionLemmas.{any_entry}
+use Rattle.stair_reinsert.specs.Misled.{device_cell, empty_after, five, made_of, rack_of}
+use Rattle.stair_reinsert.specs.Still.{IsStill}
 use Rattle.stair_reinsert_examples.proofs.FiveConsistent.{in_place}
 use Rattle.stair_reinsert_examples.proofs.FiveDevices.{AreEditions, Bare, InPlace, IsDevice, Shows, borne_own, device_counts, device_holds, device_super, place_cell}
 use Rattle.stair_reinsert_examples.proofs.FiveMoments.{GoesOn, Holding, HoldsDevice, SlotIs, Without, goes_still}
@@ -109,11 +109,11 @@ module _ (words : Codewords) (editions : ℕ → Edition) (gone : Slots) (gone_f
   abbrev pub gones : ℕ → ℕ
   gones j = if has_slot gone j then 1 else 0
 
-  abbrev pub first : Telling
-  first = telling true (made_of words editions) 0 (λ j. 0)
+  abbrev pub first : RackState
+  first = rack_state true (made_of words editions) 0 (λ j. 0)
 
-  abbrev pub last : Telling
-  last = telling true new 0 gones
+  abbrev pub last : RackState
+  last = rack_state true new 0 gones
 
   abbrev old : List Happening
   old = made_of words editions

@@ -25,7 +25,7 @@ use Rattle.stair_member.proofs.SuperLemmas.{counts_bears, holds_once}
 use Rattle.stair_state.specs.Degraded.{AreAllDamaged}
 use Rattle.stair_state.specs.Tolerance.{IsToleratedAlone}
 use Rattle.stair_state.proofs.FormLemmas.{good_whole}
-use Rattle.stair_return.specs.Misled.{five}
+use Rattle.stair_reinsert.specs.Misled.{five}
 use Rattle.stair_reinsert_examples.proofs.FiveDevices.{older_none, whole_chunks}
 
 module _ (image : Image) (e : Edition) (failed : Slots) where

@@ -20,8 +20,8 @@ use Rattle.stair_member.specs.declared.fault.SurveyFault.TheVariants.{TooFew}
 use Rattle.stair_member.specs.declared.why.Why.{Why}
 use Rattle.stair_member.specs.declared.why.Why.TheVariants as why
 use Rattle.stair_state.specs.Blocks.{AreEncodingsOf, Codewords, zero_blocks}
-use Rattle.stair_return.specs.Misled.{IsMisled, cut_promotion, empty_after, five, one_after_the_other, rack_of}
-use Rattle.stair_reinsert_examples.proofs.CutPromotion.{are, cut, epochs, failed, h0, h2, h3, h5, h7, h8, h9, holders, many_stand, s9, stand, tolerated_at}
+use Rattle.stair_reinsert.specs.Misled.{IsMisled, cut_promotion, empty_after, five, one_after_the_other, rack_of}
+use Rattle.stair_reinsert_examples.proofs.CutPromotion.{are, cut, epochs, failed, h0, h2, h3, h5, h7, h8, h9, current_media, many_stand, s9, stand, tolerated_at}
 use Rattle.stair_reinsert_examples.proofs.FiveConsistent.{made_consistent}
 use Rattle.stair_reinsert_examples.proofs.FiveDevices.{IsDevice, Shows, current, identity}
 use Rattle.stair_reinsert_examples.proofs.FiveMoments.{HoldsDevice, made_holds, settles}
@@ -149,7 +149,7 @@ module _ (words : Codewords) where
 
   pub misled : AreEncodingsOf five zero_blocks words → IsMisled (rack_of words cut_promotion) (one_after_the_other words)
   misled encoded = record {
-    consistent = made_consistent words cut_promotion (are words) encoded (holders words) 4 (cut words);
+    consistent = made_consistent words cut_promotion (are words) encoded (current_media words) 4 (cut words);
     tolerated = tolerated_at words;
     whys = whys;
     gones = gones words cut_promotion gone refl new;

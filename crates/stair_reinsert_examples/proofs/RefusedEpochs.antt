@@ -8,7 +8,7 @@ use Rattle.stair_member.specs.Editions.{Edition, copy_of}
 use Rattle.stair_state.specs.Blocks.{Codewords}
 use Rattle.stair_state.specs.Reassembly.{InSlot, Outside}
 use Rattle.stair_state.proofs.AloneLemmas.{IsImageTidy}
-use Rattle.stair_return.specs.Misled.{device_of, five}
+use Rattle.stair_reinsert.specs.Misled.{device_of, five}
 use Rattle.stair_reinsert_examples.specs.Refused.{IsRefused, JoinsTwo, NamesTwo, first_pulled, misjoined, put_back, replaced, undrawn}
 use Rattle.stair_reinsert_examples.proofs.FiveConsistent.{made_tidy}
 use Rattle.stair_reinsert_examples.proofs.FiveDevices.{past_cell}

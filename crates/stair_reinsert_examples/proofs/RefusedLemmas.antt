@@ -16,7 +16,7 @@ use Rattle.stair_state.specs.Holding.{IsConsistentBy, IsConsistentUnderReassembl
 use Rattle.stair_state.specs.Reassembly.{InSlot, IsBorne, IsMediumOf, Location, Outside}
 use Rattle.stair_state.specs.State.{State}
 use Rattle.stair_state.proofs.AloneLemmas.{IsImageTidy, made_settled}
-use Rattle.stair_return.specs.Misled.{five}
+use Rattle.stair_reinsert.specs.Misled.{five}
 use Rattle.stair_reinsert_examples.specs.Refused.{IsRefused, JoinsTwo, NamesTwo, first_pulled, slot_with}
 use Rattle.stair_reinsert_examples.proofs.FiveSurvey.{five_cases}
 
@@ -30,7 +30,7 @@ left_there image tidy j = record {
 
 -- so it is consistent itself, where a rack that is made so is
 pub by_of : (s : State) (image : Image) → IsImageTidy image → (is : IsConsistentUnderReassembly s (Made image ∷ []))
-    → IsConsistentBy s is.is.encodings is.holders is.since image
+    → IsConsistentBy s is.is.encodings is.current_media is.since image
 by_of s image tidy is = is.is.each image (left_there image tidy)
 
 pub two_lists_refused : (g : Geometry) (image : Image) → IsImageTidy image → NamesTwo g image → IsRefused g image

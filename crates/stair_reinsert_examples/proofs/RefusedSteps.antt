@@ -10,7 +10,7 @@ use Rattle.stair_member.specs.Membership.{Membership}
 use Rattle.stair_member.specs.Seats.{Seats}
 use Rattle.stair_state.specs.State.{State}
 use Rattle.stair_state.proofs.AloneLemmas.{left_consistent}
-use Rattle.stair_session.specs.Returning.{AnyReturns, IsCalm}
+use Rattle.stair_invariant.specs.Returning.{AnyReturns, StaysWithinTolerance}
 use Rattle.stair_array.specs.Machine.{Answer, CutWithin, GivenBy, HoldsAfter, LookAtSeats, MayBegin, ReadBlock, RebuildNext, Recover, ReplaceSlot, ScrubStripe, SetFrozen, SetLabel, Step, WriteBlocks}
 use Rattle.stair_array.specs.Promise.{IsInState, LeadsStep, Seen, is_open}
 use Rattle.stair_reinsert_examples.specs.Refused.{IsRefused, IsRefusedSettled}
@@ -21,7 +21,7 @@ cut_geometry step begun old new (inr row) = row.1.geometry
 
 pub not_left : (image : Image) (step : Step) (answer : Answer step) (m : Membership) (x y : Seen) (before c : List Happening) (s : State)
     → IsRefused s.geometry image → LeadsStep AnyReturns m step answer x y → IsTrue y.told.honest → IsHistory x.told.history
-    → IsInState AnyReturns before s x → IsMoment x.told.history c y.told.history → IsCalm AnyReturns s.geometry (is_open x.session) before c
+    → IsInState AnyReturns before s x → IsMoment x.told.history c y.told.history → StaysWithinTolerance AnyReturns s.geometry (is_open x.session) before c
     → ¬ CrashMayLeave c image
 not_left image step answer m x y before c s refused leads honest history state moment calm left =
     let is = leads.cuts honest before s history state c moment calm image left in
@@ -42,7 +42,7 @@ certain_then LookAtSeats given old new begins holds = holds.in_doubt
 
 pub not_settled : (image : Image) (step : Step) (given : GivenBy step) (m : Membership) (x y : Seen) (before : List Happening) (s : State)
     → IsRefusedSettled s.geometry image → LeadsStep AnyReturns m step (Ok given) x y → IsTrue y.told.honest → IsHistory x.told.history
-    → IsHistory y.told.history → IsInState AnyReturns before s x → IsCalm AnyReturns s.geometry (is_open x.session) before y.told.history
+    → IsHistory y.told.history → IsInState AnyReturns before s x → StaysWithinTolerance AnyReturns s.geometry (is_open x.session) before y.told.history
     → ¬ CrashMayLeave y.told.history image
 not_settled image step given m x y before s refused leads honest history ends state calm left =
     let is = leads.leads honest before s history state calm in

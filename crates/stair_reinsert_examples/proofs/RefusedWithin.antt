@@ -15,7 +15,7 @@ use Rattle.stair_journal.specs.Gate.{closed_gate}
 use Rattle.stair_state.specs.Blocks.{Codewords}
 use Rattle.stair_state.specs.Tolerance.{IsToleratedAlone}
 use Rattle.stair_state.proofs.FormLemmas.{good_kept}
-use Rattle.stair_return.specs.Misled.{device_of, five}
+use Rattle.stair_reinsert.specs.Misled.{device_of, five}
 use Rattle.stair_reinsert_examples.specs.Refused.{all_live, first_pulled, misjoined, put_back, replaced, slot_with, undrawn, writing, writing_cell}
 use Rattle.stair_reinsert_examples.proofs.AllowedEpochs.{few_first, first_formed, has_first, only_first}
 use Rattle.stair_reinsert_examples.proofs.FiveConsistent.{inside}

@@ -30,14 +30,14 @@ use Rattle.stair_journal.specs.Redo.{IsRedo}
 use Rattle.stair_journal.proofs.GateLemmas.{closed}
 use Rattle.stair_state.specs.Blocks.{AreEncodingsOf, Codewords, with_blocks, zero_block, zero_blocks}
 use Rattle.stair_state.specs.Forms.{CommittedNew, CommittedOld, Encodes, HasForm, HaveBody, IdleNew, IdleOld, IsCommitted, IsIdle, IsOpen, IsUncommitted, Uncommitted}
-use Rattle.stair_state.specs.Holding.{HaveHolders, Holders, IsConsistentBy, IsConsistentUnderReassembly, IsHolder}
+use Rattle.stair_state.specs.Holding.{HaveCurrentMedia, CurrentMedia, IsConsistentBy, IsConsistentUnderReassembly, IsCurrentMedium}
 use Rattle.stair_state.specs.Reassembly.{Empty, InSlot, IsBorne, IsMediumOf, IsReassembledSlot, IsReassembly, Location, OneOf, Outside}
 use Rattle.stair_state.specs.Represents.{Encodings}
 use Rattle.stair_state.specs.State.{Change, Content, State}
 use Rattle.stair_state.proofs.AloneLemmas.{IsImageTidy}
 use Rattle.stair_state.proofs.BlockLemmas.{at}
 use Rattle.stair_state.proofs.FormLemmas.{good_kept}
-use Rattle.stair_return.specs.Misled.{five}
+use Rattle.stair_reinsert.specs.Misled.{five}
 use Rattle.stair_reinsert_examples.specs.Refused.{IsRefusedSettled, all_live, first_pulled, slot_with, whole_redo, writing, writing_cell, writing_device}
 use Rattle.stair_reinsert_examples.proofs.FiveDevices.{five_limits, older_none}
 use Rattle.stair_reinsert_examples.proofs.FiveSupers.{named_super, past_none}
@@ -223,7 +223,7 @@ module _ (old new : Codewords) where
     no_form a b a_are b_are (IdleNew form) = not_idle b form
     no_form a b a_are b_are (CommittedNew form) = not_committed b form
 
-    module _ (encodings : Encodings settled) (holders : Holders) (since : ℕ) (by : IsConsistentBy settled encodings holders since pulled) where
+    module _ (encodings : Encodings settled) (current_media : CurrentMedia) (since : ℕ) (by : IsConsistentBy settled encodings current_media since pulled) where
       -- the epoch is no earlier one than that since which they are holders
       recent : since ≤ 4
       recent =
@@ -250,30 +250,30 @@ module _ (old new : Codewords) where
           all_joined : (j : ℕ) → j < 5 → (copy_of all_live j).joined ≡ joined_at (copy_of all_live 0) j
           all_joined j below = refl
 
-      held : (j : ℕ) → j < 5 → mark_at (copy_of all_live j) j ≡ Live → holders j ≡ Some (copy_of all_live j).joined
+      held : (j : ℕ) → j < 5 → mark_at (copy_of all_live j) j ≡ Live → current_media j ≡ Some (copy_of all_live j).joined
       held j below live =
           let own = has_own j below in
           by.live j (copy_of all_live j) (record { slot = j; place = own.place; borne = own_borne j own; since_then = recent }) live
 
-      both_hold : HaveHolders five holders whole (HasSlot two)
+      both_hold : HaveCurrentMedia five current_media whole (HasSlot two)
       both_hold =
-          five_cases (λ j. HasSlot two j → IsHolder five holders j ((whole j).cell)) (λ has. holds 0 (omega arith) refl refl)
+          five_cases (λ j. HasSlot two j → IsCurrentMedium five current_media j ((whole j).cell)) (λ has. holds 0 (omega arith) refl refl)
           (λ has. holds 1 (omega arith) refl refl) (λ has. absurd (false≢true has)) (λ has. absurd (false≢true has)) (λ has. absurd (false≢true has))
           (λ j past has. absurd (false≢true (sym (past_none true true false false false j past) ∙ has)))
         where
           holds : (j : ℕ) → j < 5 → mark_at (copy_of all_live j) j ≡ Live → (whole j).cell ≡ (writing old new all_live j).cell
-              → IsHolder five holders j ((whole j).cell)
+              → IsCurrentMedium five current_media j ((whole j).cell)
           holds j below live same =
-              subst (IsHolder five holders j) (sym same)
+              subst (IsCurrentMedium five current_media j) (sym same)
               (record { super = copy_of all_live j; bears = own_bears j (has_own j below); joined = held j below live })
 
-      no_holders : ⊥
-      no_holders =
+      no_current_media : ⊥
+      no_current_media =
           no_form encodings.old encodings.new encodings.old_are encodings.new_are
           (by.forms whole two put_back both_hold (record { slot = 0; among = refl; kept = good_kept open_first.good })).form
 
     pub none_settled : ¬ IsConsistentUnderReassembly settled (Made pulled ∷ [])
-    none_settled is = no_holders is.is.encodings is.holders is.since (by_of settled pulled pulled_tidy is)
+    none_settled is = no_current_media is.is.encodings is.current_media is.since (by_of settled pulled pulled_tidy is)
 
   pub early_refused : (first second : List ℕ) → AreEncodingsOf five zero_blocks old → AreEncodingsOf five (with_blocks zero_blocks 0 (first ∷ second ∷ [])) new
       → first ≢ zero_block → IsRefusedSettled five pulled

@@ -18,7 +18,7 @@ use Rattle.stair_state.specs.Blocks.{Codewords}
 use Rattle.stair_state.specs.Holding.{IsConsistentUnderReassembly}
 use Rattle.stair_state.specs.Reassembly.{IsBorne, Location}
 use Rattle.stair_state.specs.State.{BlocksAre, State, created_state, without_seats}
-use Rattle.stair_return.specs.Misled.{device_of, five, naming, rack_of}
+use Rattle.stair_reinsert.specs.Misled.{device_of, five, naming, rack_of}
 
 -- THE RACKS
 

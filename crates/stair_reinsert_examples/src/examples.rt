@@ -12,12 +12,12 @@ ghost use Rattle.stair_state.specs.Blocks.{AreEncodingsOf, Codewords, with_block
 ghost use Rattle.stair_state.specs.Holding.{IsConsistentUnderReassembly};
 ghost use Rattle.stair_state.specs.State.{State};
 ghost use Rattle.stair_state.specs.Tolerance.{IsToleratedAlone};
-ghost use Rattle.stair_session.specs.Mixed.{IsToleratedMixed};
-ghost use Rattle.stair_session.specs.Returning.{AnyReturns, IsCalm};
+ghost use Rattle.stair_invariant.specs.Mixed.{IsToleratedMixed};
+ghost use Rattle.stair_invariant.specs.Returning.{AnyReturns, StaysWithinTolerance};
 ghost use Rattle.stair_array.specs.Machine.{Answer, GivenBy, Step};
 ghost use Rattle.stair_array.specs.Promise.{IsInState, LeadsStep, Seen, is_open};
-ghost use Rattle.stair_return.specs.Counted.{IsToleratedCounted};
-ghost use Rattle.stair_return.specs.Misled.{IsMisled, IsToleratedAtWorst, cut_fence, cut_promotion, device_of, five, made_of, one_after_the_other, only_pulled, rack_of, read_and_pulled, two_fences};
+ghost use Rattle.stair_reinsert.specs.Counted.{IsToleratedCounted};
+ghost use Rattle.stair_reinsert.specs.Misled.{IsMisled, IsToleratedAtWorst, cut_fence, cut_promotion, device_of, five, made_of, one_after_the_other, only_pulled, rack_of, read_and_pulled, two_fences};
 ghost use Rattle.stair_reinsert_examples.specs.Refused.{IsAllowed, IsRefused, IsRefusedSettled, JoinsTwo, NamesTwo, all_live, doubted, drawn, dropped, first_pulled, misjoined, put_back, undrawn, without_first, writing};
 
 /// That less is asked of an opening isn't enough. It does nothing.
@@ -67,13 +67,13 @@ pub fn refused_laws()
         LeadsStep AnyReturns m step answer x y → IsTrue y.told.honest →
         IsHistory x.told.history → IsInState AnyReturns before s x →
         IsMoment x.told.history c y.told.history →
-        IsCalm AnyReturns s.geometry (is_open x.session) before c → ¬ CrashMayLeave c image }
+        StaysWithinTolerance AnyReturns s.geometry (is_open x.session) before c → ¬ CrashMayLeave c image }
     // and each that leaves the last at the end of a step that is done, as of an opening.
     ensures done { (image : Image) (step : Step) (given : GivenBy step) (m : Membership)
         (x y : Seen) (before : List Happening) (s : State) → IsRefusedSettled s.geometry image →
         LeadsStep AnyReturns m step (Ok given) x y → IsTrue y.told.honest →
         IsHistory x.told.history → IsHistory y.told.history → IsInState AnyReturns before s x →
-        IsCalm AnyReturns s.geometry (is_open x.session) before y.told.history →
+        StaysWithinTolerance AnyReturns s.geometry (is_open x.session) before y.told.history →
         ¬ CrashMayLeave y.told.history image }
 {}
 

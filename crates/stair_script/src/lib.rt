@@ -8,6 +8,6 @@ mod line;
 mod printing;
 mod reading;
 
-pub use line::{LINE_LIMIT, Line, SCRIPT_LIMIT};
+pub use line::{Line, MAX_SCRIPT_LINE, SCRIPT_LIMIT};
 pub use printing::print_line;
 pub use reading::read_line;

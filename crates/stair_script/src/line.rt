@@ -4,7 +4,7 @@ use stair_base::SECTOR;
 ///
 /// A longer line is in the grammar as little as any line of more than 1,051 bytes. So what takes a script may refuse a line
 /// as soon as it is longer, without having seen its end.
-pub const LINE_LIMIT: usize = 1_100;
+pub const MAX_SCRIPT_LINE: usize = 1_100;
 
 /// A script has at most so many bytes, and so has any other text that is taken line by line.
 pub const SCRIPT_LIMIT: u64 = 1_073_741_824;

@@ -4,9 +4,9 @@ ghost use Rattle.stair_watch.specs.WatcherList.{AllStay};
 ghost use Rattle.stair_watch.specs.Watchers.{printer_left, tally_left};
 
 use crate::devices::DeviceUse;
-use crate::hearing::{HeardText, Hearing};
+use crate::hearing::{GeometryTap, HeardText};
 use crate::limits::GivenNumbers;
-use crate::progress::{Gauges, Measure, Showing};
+use crate::progress::{Gauges, Measure, ProgressRack};
 use crate::screen::{Cleared, Screen};
 use crate::sectors::BadSectors;
 use crate::streams::Noting;
@@ -126,7 +126,7 @@ pub(crate) fn call<'a, T: TopCall, L: Ledger>(
         geometry: &geometry,
         taken: &taken,
     };
-    let mut rack = Showing::new(rack, bad, rt, screen.clone()?, gauges, manner.measure);
+    let mut rack = ProgressRack::new(rack, bad, rt, screen.clone()?, gauges, manner.measure);
     let mut watchers = Vec::new(rt.alloc());
     add_two(&mut watchers, printer, tally)?;
     if let Some((events, fences)) = bounds {
@@ -171,15 +171,15 @@ fn input_of<'g, 'f>(
     heard: HeardText<'g>,
     taken: &'g Cell<u64>,
     fault: &'f Cell<Option<io::Error>>,
-) -> Result<Hearing<'g, Input<'f>>, AllocError> {
+) -> Result<GeometryTap<'g, Input<'f>>, AllocError> {
     let input = Noting::new(rt.stdin(), fault);
     let Ok(input) = BufReader::with_capacity(rt.alloc(), manner.ahead, input) else {
         return Err(AllocError);
     };
     let input = FromRead::new(input);
     Ok(match manner.usage {
-        DeviceUse::Made => Hearing::new(input, taken, heard),
-        DeviceUse::Unused | DeviceUse::Shown | DeviceUse::Opened => Hearing::deaf(input, taken),
+        DeviceUse::Made => GeometryTap::new(input, taken, heard),
+        DeviceUse::Unused | DeviceUse::Shown | DeviceUse::Opened => GeometryTap::deaf(input, taken),
     })
 }
 

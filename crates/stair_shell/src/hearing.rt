@@ -56,16 +56,16 @@ impl<'a> HeardText<'a> {
 
 /// A source that gives what its inner one does and counts the bytes, and may listen for a geometry text.
 #[derive(Drop)]
-pub(crate) struct Hearing<'a, S: Source> {
+pub(crate) struct GeometryTap<'a, S: Source> {
     source: S,
     taken: &'a Cell<u64>,
     heard: Option<HeardText<'a>>,
 }
 
-impl<'a, S: Source + Drop> Hearing<'a, S> {
+impl<'a, S: Source + Drop> GeometryTap<'a, S> {
     /// A source that doesn't listen.
-    pub(crate) fn deaf(source: S, taken: &'a Cell<u64>) -> Hearing<'a, S> {
-        Hearing {
+    pub(crate) fn deaf(source: S, taken: &'a Cell<u64>) -> GeometryTap<'a, S> {
+        GeometryTap {
             source,
             taken,
             heard: None,
@@ -73,8 +73,8 @@ impl<'a, S: Source + Drop> Hearing<'a, S> {
     }
 
     /// A source of a geometry text.
-    pub(crate) fn new(source: S, taken: &'a Cell<u64>, heard: HeardText<'a>) -> Hearing<'a, S> {
-        Hearing {
+    pub(crate) fn new(source: S, taken: &'a Cell<u64>, heard: HeardText<'a>) -> GeometryTap<'a, S> {
+        GeometryTap {
             source,
             taken,
             heard: Some(heard),
@@ -82,7 +82,7 @@ impl<'a, S: Source + Drop> Hearing<'a, S> {
     }
 }
 
-impl<S: Source + Drop> Source for Hearing<'_, S> {
+impl<S: Source + Drop> Source for GeometryTap<'_, S> {
     ghost left = { λ s. S.left s.source };
 
     ghost faults = { λ s. S.faults s.source };

@@ -221,14 +221,14 @@ fn stripes_of(geometry: &Geometry, span: Span) -> Option<(u64, u64)> {
 
 /// A rack that shows how far a command is and counts bad sectors, and answers as its inner one.
 #[derive(Drop)]
-pub(crate) struct Showing<'a, R: Rack> {
+pub(crate) struct ProgressRack<'a, R: Rack> {
     rack: R,
     bad: BadSectors,
     geometry: &'a Cell<Option<Geometry>>,
     progress: Option<Progress<'a>>,
 }
 
-impl<'a, R: Rack + Drop> Showing<'a, R> {
+impl<'a, R: Rack + Drop> ProgressRack<'a, R> {
     /// Shows it from here on, by this measure, or where there is none not at all.
     pub(crate) fn new(
         rack: R,
@@ -237,8 +237,8 @@ impl<'a, R: Rack + Drop> Showing<'a, R> {
         screen: Rc<Screen>,
         gauges: Gauges<'a>,
         measure: Option<Measure>,
-    ) -> Showing<'a, R> {
-        Showing {
+    ) -> ProgressRack<'a, R> {
+        ProgressRack {
             rack,
             bad,
             geometry: gauges.geometry,
@@ -248,7 +248,7 @@ impl<'a, R: Rack + Drop> Showing<'a, R> {
 
     /// The inner rack, which shows nothing, and the bad sectors.
     pub(crate) fn into_parts(self) -> (R, BadSectors) {
-        let Showing {
+        let ProgressRack {
             rack,
             bad,
             geometry: _,
@@ -265,7 +265,7 @@ impl<'a, R: Rack + Drop> Showing<'a, R> {
     }
 }
 
-impl<R: Rack + Drop> Rack for Showing<'_, R> {
+impl<R: Rack + Drop> Rack for ProgressRack<'_, R> {
     ghost is_honest = { R.is_honest };
 
     ghost history = { λ s. R.history s.rack };

@@ -6,7 +6,7 @@ use stair_status::Status;
 use std::fs;
 
 // How many bytes a sector takes in an image file.
-const SECTOR_BYTES: u64 = 544;
+const SEALED_SECTOR: u64 = 544;
 
 /// Reports image files that are too small or end within a sector: the small device of the status, each that has bad sectors, and if no
 /// array can be opened all of them.
@@ -43,18 +43,18 @@ fn report_size(rt: &HostRuntime, folder: &str, slot: u8, needs: u32) {
     let Some(length) = length_of(rt, folder, device) else {
         return;
     };
-    let needed = SECTOR_BYTES * u64::from(needs);
+    let needed = SEALED_SECTOR * u64::from(needs);
     if length < needed {
         report(
             rt,
             device,
             format_args!("{length} bytes, and the array needs {needed}"),
         );
-    } else if length % SECTOR_BYTES != 0 {
+    } else if length % SEALED_SECTOR != 0 {
         report(
             rt,
             device,
-            format_args!("{length} bytes, which is no multiple of {SECTOR_BYTES}"),
+            format_args!("{length} bytes, which is no multiple of {SEALED_SECTOR}"),
         );
     }
 }

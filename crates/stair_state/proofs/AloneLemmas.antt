@@ -131,11 +131,11 @@ pub left_consistent : (s : State) (h : List Happening) (image : Image) → IsHis
 left_consistent s h image history consistent left =
     let tidy : IsImageTidy image = left_past_end h (history_tidy history) image left in
     record {
-      holders = consistent.holders;
+      current_media = consistent.current_media;
       since = consistent.since;
       is = record {
         encodings = consistent.is.encodings;
-        each = each_left image tidy (IsConsistentBy s consistent.is.encodings consistent.holders consistent.since) (consistent.is.each image left);
+        each = each_left image tidy (IsConsistentBy s consistent.is.encodings consistent.current_media consistent.since) (consistent.is.each image left);
         seats = seats_left s.seats s.geometry h image tidy left consistent.is.seats;
         steady = steady_made s.geometry image;
       };

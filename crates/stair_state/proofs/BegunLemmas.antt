@@ -23,7 +23,7 @@ use Rattle.stair_member.specs.Membership.{IsHere, IsMembership, Membership, plac
 use Rattle.stair_member.specs.Reserve.{Bears, HasReached, HasReserved, IsOrderly}
 use Rattle.stair_member.specs.Superblocks.{Counts, HoldsSuper}
 use Rattle.stair_member.specs.Survey.{InFirst, InSecond, IsAnswer, IsPlaceOf, IsSurveyed, Surveys}
-use Rattle.stair_rack.specs.Telling.{Telling}
+use Rattle.stair_rack.specs.RackState.{RackState}
 use Rattle.stair_member.specs.declared.fault.SurveyFault.{SurveyFault}
 use Rattle.stair_member.proofs.AskedLemmas.{asked_ran}
 use Rattle.stair_member.proofs.CountingLemmas.{all_but_mapped}
@@ -181,7 +181,7 @@ module _ (m : Membership) (f : Findings) (surveyed : IsSurveyed f m) {offline : 
     joined = λ i j s bears. joined_here i j s bears (covers i s bears).epoch;
   }
 
-pub begins : (s : State) (before : List Happening) (old new : Telling) (answer : Result Membership SurveyFault) (m : Membership)
+pub begins : (s : State) (before : List Happening) (old new : RackState) (answer : Result Membership SurveyFault) (m : Membership)
     → Surveys answer old new → IsTrue new.honest → Ran any_call before old.history → Represents s old.history
     → NothingReturned old.history new.history → ToleratedSince s.geometry before new.history → IsMembership m → answer ≡ Ok m
     → IsBegun None m new.history

@@ -19,7 +19,7 @@ use Rattle.stair_member.specs.Membership.{Membership}
 use Rattle.stair_member.specs.Reserve.{Bears, IsOrderly}
 use Rattle.stair_member.specs.Superblocks.{Counts, First, HoldsSuper, IsSuperOf, Second}
 use Rattle.stair_member.specs.Survey.{IsAnswer, IsSurveyed, Surveys}
-use Rattle.stair_rack.specs.Telling.{Telling}
+use Rattle.stair_rack.specs.RackState.{RackState}
 use Rattle.stair_member.specs.declared.fault.SurveyFault.{SurveyFault}
 use Rattle.stair_member.proofs.AskedLemmas.{asked_ran}
 use Rattle.stair_member.proofs.SuperLemmas.{counts_bears, holds_once}
@@ -95,7 +95,7 @@ module _ {g : Geometry} {offline : ℕ → Type 0} {first read last : Image} (lo
 
 -- THE MEMBER
 
-module _ (s : State) (before : List Happening) (old new : Telling) (f : Findings) (found : AreFound f old new) (honest : IsTrue new.honest)
+module _ (s : State) (before : List Happening) (old new : RackState) (f : Findings) (found : AreFound f old new) (honest : IsTrue new.honest)
     (is : IsHistory old.history) (ran : Ran no_write old.history new.history) (began : Ran any_call before old.history)
     (stands : Represents s old.history) (none : NothingReturned old.history new.history)
     (tolerated : ToleratedSince s.geometry before new.history) (m : Membership) (surveyed : IsSurveyed f m) where
@@ -145,7 +145,7 @@ module _ (s : State) (before : List Happening) (old new : Telling) (f : Findings
   pub covers : CoversAll g m new.history
   covers = record { each = λ image left j t bears. covers_now j t (bears_now image left j t bears) }
 
-pub covers_all : (s : State) (before : List Happening) (old new : Telling) (answer : Result Membership SurveyFault) (m : Membership)
+pub covers_all : (s : State) (before : List Happening) (old new : RackState) (answer : Result Membership SurveyFault) (m : Membership)
     → Surveys answer old new → IsTrue new.honest → Ran any_call before old.history → Represents s old.history
     → NothingReturned old.history new.history → ToleratedSince s.geometry before new.history → answer ≡ Ok m → CoversAll s.geometry m new.history
 covers_all s before old new answer m surveys honest began stands none tolerated ok =

@@ -20,10 +20,10 @@ use Rattle.stair_state.specs.State.{State}
 use Rattle.stair_state.specs.Tolerance.{IsToleratedAlone}
 use Rattle.stair_state.proofs.FormLemmas.{represents_still, same_kept}
 use Rattle.stair_state.proofs.ToleranceLemmas.{journal_gate}
-use Rattle.stair_state.specs.Holding.{Holders, HasOvertaken, HolderReserved, IsBorneSince, IsConsistentBy, IsHolder, OfAdmitted}
+use Rattle.stair_state.specs.Holding.{CurrentMedia, HasOvertaken, CurrentMediumReserved, IsBorneSince, IsConsistentBy, IsCurrentMedium, OfAdmitted}
 use Rattle.stair_state.proofs.ReassembledLemmas.{IsBorneFrom, borne_of, counts_from, few_by}
 
-module _ (s : State) (encodings : Encodings s) (holders : Holders) (since : ℕ) (image : Image) (it : IsConsistentBy s encodings holders since image)
+module _ (s : State) (encodings : Encodings s) (current_media : CurrentMedia) (since : ℕ) (image : Image) (it : IsConsistentBy s encodings current_media since image)
     (to : Image) (reassembly : IsReassembly image to) (tolerated : IsToleratedAlone s.geometry to) (current : Superblock)
     (is_current : IsCurrent s.geometry to current) where
   abbrev ServesThere : ℕ → Type 0
@@ -84,12 +84,12 @@ module _ (s : State) (encodings : Encodings s) (holders : Holders) (since : ℕ)
   pub current_since : IsBorneSince s.geometry since image current
   current_since = record { slot = current.slot; place = current_borne.0; borne = current_borne.1; since_then = recent }
 
-  live_joined : (j : ℕ) (live : IsLive s.geometry to current j) → holders j ≡ Some live.super.joined
+  live_joined : (j : ℕ) (live : IsLive s.geometry to current j) → current_media j ≡ Some live.super.joined
   live_joined j live = it.live j current current_since live.marked ∙ ap Some (sym live.joined)
 
   -- a live slot has its holder
-  pub live_holder : (j : ℕ) → IsLive s.geometry to current j → IsHolder s.geometry holders j ((to j).cell)
-  live_holder j live = record {
+  pub live_current_medium : (j : ℕ) → IsLive s.geometry to current j → IsCurrentMedium s.geometry current_media j ((to j).cell)
+  live_current_medium j live = record {
     super = live.super;
     bears = counts_bears s.geometry to j live.super live.counts;
     joined = live_joined j live;
@@ -98,7 +98,7 @@ module _ (s : State) (encodings : Encodings s) (holders : Holders) (since : ℕ)
   -- every epoch was drawn on a slot that serves
   pub drawn : (j : ℕ) × HasDrawAbove s.geometry image to current j
   drawn =
-      let found = some_serves {P = HolderReserved s.geometry holders image} it.reserved in
+      let found = some_serves {P = CurrentMediumReserved s.geometry current_media image} it.reserved in
       let serves : ServesThere found.0 = found.2 in (
         found.0,
         record {
@@ -111,11 +111,11 @@ module _ (s : State) (encodings : Encodings s) (holders : Holders) (since : ℕ)
       )
 
   -- where all holders but m have drawn or reached an epoch, none earlier is current
-  pub none_earlier : (epoch : ℕ) → AllBut s.geometry.n s.geometry.m (λ j. (joined : ℕ) → holders j ≡ Some joined
+  pub none_earlier : (epoch : ℕ) → AllBut s.geometry.n s.geometry.m (λ j. (joined : ℕ) → current_media j ≡ Some joined
       → OfAdmitted s.geometry image joined (λ x. epoch ≤ x.array.epoch) j) → epoch ≤ current.array.epoch
   none_earlier epoch reached =
       let found =
-      some_serves {P = λ j. (joined : ℕ) → holders j ≡ Some joined → OfAdmitted s.geometry image joined (λ x. epoch ≤ x.array.epoch) j} reached in
+      some_serves {P = λ j. (joined : ℕ) → current_media j ≡ Some joined → OfAdmitted s.geometry image joined (λ x. epoch ≤ x.array.epoch) j} reached in
       let serves : ServesThere found.0 = found.2 in
       let least : epoch ≤ serves.live.super.array.epoch =
       of_serving (λ x. epoch ≤ x.array.epoch) found.0 serves.live.super.joined serves refl
@@ -179,11 +179,11 @@ module _ (s : State) (encodings : Encodings s) (holders : Holders) (since : ℕ)
     identity = tolerated.identity;
     current = current;
     is_current = is_current;
-    full = λ j live. it.full to j reassembly (live_holder j live);
+    full = λ j live. it.full to j reassembly (live_current_medium j live);
     form =
         represents_still s.geometry (HasSlot live_set) (IsLive s.geometry to current) to to to_set (record { each = λ j k live place. inl refl })
         encodings.old encodings.new live_gate
-        (it.forms to live_set reassembly (λ j has. live_holder j (in_set j has))
+        (it.forms to live_set reassembly (λ j has. live_current_medium j (in_set j has))
         (record { slot = live_gate.slot; among = to_set live_gate.slot live_gate.among; kept = live_gate.kept }));
     rebuilding = λ j redo rebuilt.
         it.rebuilding to j current rebuilt.super redo reassembly current_since rebuilt.marked (counts_bears s.geometry to j rebuilt.super rebuilt.counts)
@@ -194,17 +194,17 @@ module _ (s : State) (encodings : Encodings s) (holders : Holders) (since : ℕ)
 
 -- HOWEVER THE MEDIA LIE
 
-pub consistent_by : (s : State) (encodings : Encodings s) (holders : Holders) (since : ℕ) (image : Image)
-    → IsConsistentBy s encodings holders since image → IsConsistent s encodings image
-consistent_by s encodings holders since image it = record {
+pub consistent_by : (s : State) (encodings : Encodings s) (current_media : CurrentMedia) (since : ℕ) (image : Image)
+    → IsConsistentBy s encodings current_media since image → IsConsistent s encodings image
+consistent_by s encodings current_media since image it = record {
   each = λ to reassembly tolerated.
-      represents s encodings holders since image it to reassembly tolerated tolerated.current tolerated.is_current;
+      represents s encodings current_media since image it to reassembly tolerated tolerated.current tolerated.is_current;
   one_list = it.one_list;
   own_joined = it.own_joined;
   same_joined = λ to also a b j is_to is_also alone_to alone_also current_a current_b marked_a marked_b.
-      once (sym (it.live j a (current_since s encodings holders since image it to is_to alone_to a current_a) marked_a)
-      ∙ it.live j b (current_since s encodings holders since image it also is_also alone_also b current_b) marked_b);
-  drawn = λ to current reassembly tolerated is_current. drawn s encodings holders since image it to reassembly tolerated current is_current;
+      once (sym (it.live j a (current_since s encodings current_media since image it to is_to alone_to a current_a) marked_a)
+      ∙ it.live j b (current_since s encodings current_media since image it also is_also alone_also b current_b) marked_b);
+  drawn = λ to current reassembly tolerated is_current. drawn s encodings current_media since image it to reassembly tolerated current is_current;
 }
   where
     once : {a b : ℕ} → Some a ≡ Some b → a ≡ b

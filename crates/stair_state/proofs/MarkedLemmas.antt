@@ -11,7 +11,7 @@ use Rattle.stair_rack.specs.Media.{Image}
 use Rattle.stair_rack.specs.Offline.{IsHeld, IsOffline}
 use Rattle.stair_rack.specs.Sector.{Cell}
 use Rattle.stair_rack.specs.Stretch.{NothingReturned}
-use Rattle.stair_rack.specs.Telling.{Telling}
+use Rattle.stair_rack.specs.RackState.{RackState}
 use Rattle.stair_rack.proofs.MomentLemmas.{ran_none}
 use Rattle.stair_super.specs.Superblock.{Superblock, joined_at, joined_in, mark_at, mark_in}
 use Rattle.stair_super.specs.declared.configuration.Configuration.{Configuration}
@@ -100,7 +100,7 @@ module _ (m : Membership) (rules : IsMembership m) (f : Findings) (surveyed : Is
     pub marked_last : mark_in m.array j ≡ mark_for (why_of m j)
     marked_last = by_why (why_of m j) (rules.marked j below) (surveyed.reasons j below)
 
-module _ (s : State) (before : List Happening) (old new : Telling) (answer : Result Membership SurveyFault)
+module _ (s : State) (before : List Happening) (old new : RackState) (answer : Result Membership SurveyFault)
     (m : Membership) (surveys : Surveys answer old new) (honest : IsTrue new.honest) (began : Ran any_call before old.history)
     (stands : Represents s old.history) (none : NothingReturned old.history new.history)
     (tolerated : ToleratedSince s.geometry before new.history) (ok : answer ≡ Ok m) where

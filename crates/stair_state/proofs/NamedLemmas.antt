@@ -5,7 +5,7 @@ use Rattle.stair_rack.specs.Answers.{IsHistory, Ran, any_call}
 use Rattle.stair_rack.specs.Crash.{image_now}
 use Rattle.stair_rack.specs.History.{Happening}
 use Rattle.stair_rack.specs.Stretch.{NothingReturned}
-use Rattle.stair_rack.specs.Telling.{Telling}
+use Rattle.stair_rack.specs.RackState.{RackState}
 use Rattle.stair_rack.proofs.CrashLemmas.{CrashMayLeave-now}
 use Rattle.stair_member.specs.Membership.{Membership}
 use Rattle.stair_member.specs.Survey.{IsAnswer, Surveys}
@@ -19,7 +19,7 @@ use Rattle.stair_state.proofs.OutsideLemmas.{tolerated_alone, unwritten_ran}
 use Rattle.stair_state.proofs.StillLemmas.{degraded_now}
 use Rattle.stair_state.proofs.SurveyedLemmas.{named, tolerated_last}
 
-pub names_content : (s : State) (before : List Happening) (old new : Telling) (answer : Result Membership SurveyFault) (m : Membership)
+pub names_content : (s : State) (before : List Happening) (old new : RackState) (answer : Result Membership SurveyFault) (m : Membership)
     → Surveys answer old new → IsTrue new.honest → Ran any_call before old.history → Represents s old.history
     → NothingReturned old.history new.history → ToleratedSince s.geometry before new.history → answer ≡ Ok m → NamesContent s m.array
 names_content s before old new answer m surveys honest began stands none tolerated ok =

@@ -10,7 +10,7 @@ use Rattle.stair_rack.specs.Moments.{IsMoment}
 use Rattle.stair_rack.specs.Outside.{IsAct, MayHappen}
 use Rattle.stair_rack.specs.Sector.{Cell, Damaged, Good, content, damaged}
 use Rattle.stair_rack.specs.Stretch.{NothingReturned, ReturnsNothing}
-use Rattle.stair_rack.specs.Telling.{Telling}
+use Rattle.stair_rack.specs.RackState.{RackState}
 use Rattle.stair_rack.specs.declared.rack.Reply.{Reply}
 use Rattle.stair_rack.specs.declared.rack.Reply.TheVariants as reply
 use Rattle.stair_rack.specs.declared.rack.Got.{Got}
@@ -254,7 +254,7 @@ own_found old new j k gone cell bytes j_in k_in good is asked none within = by w
               (good_read gone second within.to j 1 (cell 1) bytes read_two (subst (λ (l : ℕ). cell l ≡ Good bytes) (omega (arith, at, k_in)) good))
         ]
 
-pub found_own : (old new : Telling) (answer : Result Membership SurveyFault) (m : Membership) → Surveys answer old new → IsTrue new.honest
+pub found_own : (old new : RackState) (answer : Result Membership SurveyFault) (m : Membership) → Surveys answer old new → IsTrue new.honest
     → NothingReturned old.history new.history → answer ≡ Ok m → (j : ℕ) → IsHere m j
     → IsOwnOrBare (slot_state old.history j) (slot_state new.history j)
 found_own old new answer m surveys honest none ok j here =

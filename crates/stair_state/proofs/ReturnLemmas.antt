@@ -18,7 +18,7 @@ use Rattle.stair_member.specs.Seats.{Seats}
 use Rattle.stair_member.proofs.CountingLemmas.{all_but_mapped}
 use Rattle.stair_member.proofs.SuperLemmas.{super_cells, super_held}
 use Rattle.stair_state.specs.Degraded.{AreAllDamaged, AreDamagedCopies, Taken, Blank, Stays}
-use Rattle.stair_state.specs.Holding.{HasOvertaken, HolderReserved, Holders, IsBorneSince, IsConsistentBy, IsConsistentSince, IsConsistentUnderReassembly, OfAdmitted}
+use Rattle.stair_state.specs.Holding.{HasOvertaken, CurrentMediumReserved, CurrentMedia, IsBorneSince, IsConsistentBy, IsConsistentSince, IsConsistentUnderReassembly, OfAdmitted}
 use Rattle.stair_state.specs.Reassembly.{Location, InSlot, Outside, IsBorne, IsMediumOf, IsReassembledSlot, OneOf, Unwritten, Empty, IsReassembly, before_pull, before_return}
 use Rattle.stair_state.specs.Represents.{Encodings, no_write}
 use Rattle.stair_state.specs.State.{State, without_seats}
@@ -297,7 +297,7 @@ reassembled_before b image to from (OneOf p m is size copies past) =
 reassembled_before b image to from (Unwritten size is all) = Unwritten size is all
 reassembled_before b image to from (Empty none all) = Empty none all
 
-module _ (s : State) (encodings : Encodings s) (holders : Holders) (since : ℕ) (old : List Happening) (image : Image)
+module _ (s : State) (encodings : Encodings s) (current_media : CurrentMedia) (since : ℕ) (old : List Happening) (image : Image)
     (from : (j : ℕ) → MediaCameFrom (slot_state old j) (image j)) where
   abbrev was : Image
   was j = (from j).was
@@ -334,7 +334,7 @@ module _ (s : State) (encodings : Encodings s) (holders : Holders) (since : ℕ)
             let held = super_held m.cell x super in absurd (good_whole held.holds.good (all held.place))
       ]
 
-  pub consistent_by_after : IsConsistentBy s encodings holders since was → IsConsistentBy s encodings holders since image
+  pub consistent_by_after : IsConsistentBy s encodings current_media since was → IsConsistentBy s encodings current_media since image
   consistent_by_after it = record {
     overtaken = λ i p a borne earlier.
         all_but_mapped {P = HasOvertaken s.geometry was a} {Q = HasOvertaken s.geometry image a}
@@ -342,12 +342,12 @@ module _ (s : State) (encodings : Encodings s) (holders : Holders) (since : ℕ)
         admitted_after (joined_at a j) j (λ x. a.array.epoch < x.array.epoch) (λ x. a.array.epoch < x.array.epoch) (λ x less. less) (over marked))
         (it.overtaken i ((from i).place p) a (borne_before i p a borne) earlier);
     reserved =
-        all_but_mapped {P = HolderReserved s.geometry holders was} {Q = HolderReserved s.geometry holders image}
-        (λ j below reserved joined holder.
+        all_but_mapped {P = CurrentMediumReserved s.geometry current_media was} {Q = CurrentMediumReserved s.geometry current_media image}
+        (λ j below reserved joined current_medium.
         admitted_after joined j
         (λ x. (i : ℕ) (q : Location) (t : Superblock) → IsBorne s.geometry was i q t → t.array.epoch ≤ x.draw)
         (λ x. (i : ℕ) (q : Location) (t : Superblock) → IsBorne s.geometry image i q t → t.array.epoch ≤ x.draw)
-        (λ x above i q t borne. above i ((from i).place q) t (borne_before i q t borne)) (reserved joined holder))
+        (λ x above i q t borne. above i ((from i).place q) t (borne_before i q t borne)) (reserved joined current_medium))
         it.reserved;
     live = λ j a borne. it.live j a (since_before a borne);
     rebuilt = λ j joined a borne. it.rebuilt j joined a (since_before a borne);
@@ -364,9 +364,9 @@ module _ (s : State) (encodings : Encodings s) (holders : Holders) (since : ℕ)
   }
 
 -- marks and joined numbers of the state are no part of it
-pub by_seats : (s : State) (seats : Option Seats) (encodings : Encodings s) (holders : Holders) (since : ℕ) (image : Image)
-    → IsConsistentBy s encodings holders since image → IsConsistentBy (record s { seats = seats }) (reseated s seats encodings) holders since image
-by_seats s seats encodings holders since image it = record {
+pub by_seats : (s : State) (seats : Option Seats) (encodings : Encodings s) (current_media : CurrentMedia) (since : ℕ) (image : Image)
+    → IsConsistentBy s encodings current_media since image → IsConsistentBy (record s { seats = seats }) (reseated s seats encodings) current_media since image
+by_seats s seats encodings current_media since image it = record {
   overtaken = it.overtaken;
   reserved = it.reserved;
   live = it.live;
@@ -381,14 +381,14 @@ by_seats s seats encodings holders since image it = record {
 }
 
 -- acts, media put back too, and looks
-pub looks_consistent : (s : State) (holders : Holders) (since : ℕ) (old new : List Happening) → IsConsistentSince s holders since old
-    → Ran no_write old new → IsConsistentSince (without_seats s) holders since new
-looks_consistent s holders since old new it ran = record {
+pub looks_consistent : (s : State) (current_media : CurrentMedia) (since : ℕ) (old new : List Happening) → IsConsistentSince s current_media since old
+    → Ran no_write old new → IsConsistentSince (without_seats s) current_media since new
+looks_consistent s current_media since old new it ran = record {
   encodings = encodings_without_seats s it.encodings;
   each = λ image left.
       let from = λ (j : ℕ). at_image (came_looking j ran) (image j) (left j) in
-      by_seats s None it.encodings holders since image
-      (consistent_by_after s it.encodings holders since old image from (it.each (λ j. (from j).was) (λ j. (from j).left)));
+      by_seats s None it.encodings current_media since image
+      (consistent_by_after s it.encodings current_media since old image from (it.each (λ j. (from j).was) (λ j. (from j).left)));
   seats = tt;
   steady = steady_looks s.geometry old new ran it.steady;
 }
@@ -397,4 +397,4 @@ looks_consistent s holders since old new it ran = record {
 pub looked_consistent : (s : State) (old new : List Happening) → IsConsistentUnderReassembly s old → Ran no_write old new
     → IsConsistentUnderReassembly (without_seats s) new
 looked_consistent s old new it ran =
-    record { holders = it.holders; since = it.since; is = looks_consistent s it.holders it.since old new it.is ran }
+    record { current_media = it.current_media; since = it.since; is = looks_consistent s it.current_media it.since old new it.is ran }

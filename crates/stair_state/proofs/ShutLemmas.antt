@@ -12,7 +12,7 @@ use Rattle.stair_rack.specs.Media.{Image, SlotImage}
 use Rattle.stair_rack.specs.Offline.{Here, IsOffline}
 use Rattle.stair_rack.specs.Sector.{Cell, Damaged, MayLeave}
 use Rattle.stair_rack.specs.Stretch.{NothingReturned}
-use Rattle.stair_rack.specs.Telling.{Telling}
+use Rattle.stair_rack.specs.RackState.{RackState}
 use Rattle.stair_rack.proofs.CrashLemmas.{CrashMayLeave-now, MayLeave-base, in_each_image}
 use Rattle.stair_rack.proofs.MomentLemmas.{moment_between}
 use Rattle.stair_rack.proofs.TidyLemmas.{history_on, history_tidy}
@@ -52,7 +52,7 @@ damaged_closed : {g : Geometry} {was is : Cell} → (is ≡ was) ⊎ (is ≡ Dam
 damaged_closed {g} (inl same) closed = subst (ReadsClosed g) (sym same) closed
 damaged_closed (inr harmed) closed = λ redo opened. good_whole opened.good harmed
 
-module _ (s : State) (before : List Happening) (old new : Telling) (f : Findings) (found : AreFound f old new) (honest : IsTrue new.honest)
+module _ (s : State) (before : List Happening) (old new : RackState) (f : Findings) (found : AreFound f old new) (honest : IsTrue new.honest)
     (is : IsHistory old.history) (ran : Ran no_write old.history new.history) (began : Ran any_call before old.history)
     (stands : Represents s old.history) (none : NothingReturned old.history new.history)
     (tolerated : ToleratedSince s.geometry before new.history) (j : ℕ) (below : j < s.geometry.n) where
@@ -176,7 +176,7 @@ module _ (s : State) (before : List Happening) (old new : Telling) (f : Findings
       each : (cell : Cell) → MayLeave ((slot_state new.history j).sector gate_sector) cell → ReadsClosed g cell
       each = in_each_image new.history j gate_sector (ReadsClosed g) closed
 
-pub found_shut : (s : State) (before : List Happening) (old new : Telling) (answer : Result Membership SurveyFault) (m : Membership)
+pub found_shut : (s : State) (before : List Happening) (old new : RackState) (answer : Result Membership SurveyFault) (m : Membership)
     → Surveys answer old new → IsTrue new.honest → Ran any_call before old.history → Represents s old.history
     → NothingReturned old.history new.history → ToleratedSince s.geometry before new.history → answer ≡ Ok m → (j : ℕ)
     → j < m.array.geometry.n → why_of m j ≡ Rebuilding → IsLeftShut m.array.geometry new.history j

@@ -24,7 +24,7 @@ use Rattle.stair_rack.proofs.StretchLemmas.{each_after, each_before, kept_where}
 use Rattle.stair_rack.proofs.TidyLemmas.{history_on, history_tidy}
 use Rattle.stair_super.proofs.Decided.{known_lt}
 use Rattle.stair_member.specs.Findings.{AreFound, Findings, IsPlaceFound}
-use Rattle.stair_rack.specs.Telling.{IsReading, Telling}
+use Rattle.stair_rack.specs.RackState.{IsReading, RackState}
 use Rattle.stair_state.specs.Degraded.{AreAllDamaged, AreDamagedCopies, Blank, IsDegraded, IsDegradedSlot, Stays, Taken}
 use Rattle.stair_state.specs.Represents.{AreSteady, no_write}
 use Rattle.stair_state.proofs.DegradedLemmas.{copies_damaged, degraded_copies, degraded_same, slot_again}
@@ -192,7 +192,7 @@ steady_cells g h image steady left j k below place =
 
 -- WHAT IS READ MEANWHILE
 
-module _ (old new : Telling) (honest : IsTrue new.honest) (is : IsHistory old.history)
+module _ (old new : RackState) (honest : IsTrue new.honest) (is : IsHistory old.history)
     (ran : Ran no_write old.history new.history) (none : NothingReturned old.history new.history) where
   cells_until : (h : List Happening) → IsMoment old.history h new.history → (j : ℕ)
       → AreDamagedCopies (image_now old.history j).cell (image_now h j).cell
@@ -261,7 +261,7 @@ read_behind f j k behind =
 pub read_cell : (f : Findings) (j k : ℕ) → j < 32 → k < 2 → (read_image f j).cell k ≡ (f.image j).cell k
 read_cell f j k j_in k_in = cond-true _ _ _ (lt-ltb j 32 j_in) ∙ cond-true _ _ _ (lt-ltb k 2 k_in)
 
-module _ (f : Findings) (old new : Telling) (found : AreFound f old new) (honest : IsTrue new.honest) (is : IsHistory old.history)
+module _ (f : Findings) (old new : RackState) (found : AreFound f old new) (honest : IsTrue new.honest) (is : IsHistory old.history)
     (ran : Ran no_write old.history new.history) (none : NothingReturned old.history new.history) where
   -- each cell that was read is as it was, or damaged
   pub read_copies : (j : ℕ) → AreDamagedCopies (image_now old.history j).cell (read_image f j).cell

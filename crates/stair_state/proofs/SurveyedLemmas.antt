@@ -19,7 +19,7 @@ use Rattle.stair_member.specs.Membership.{IsMissing, Membership, why_of}
 use Rattle.stair_member.specs.Reasons.{IsReason}
 use Rattle.stair_member.specs.Superblocks.{CountsFor, Identifies}
 use Rattle.stair_member.specs.Survey.{AreFirstTwo, IsAnswer, IsSurveyed, Surveys}
-use Rattle.stair_rack.specs.Telling.{Telling}
+use Rattle.stair_rack.specs.RackState.{RackState}
 use Rattle.stair_member.specs.declared.fault.SurveyFault.{SurveyFault}
 use Rattle.stair_member.specs.declared.fault.SurveyFault.TheVariants.{NoArray, TwoArrays, TooFew}
 use Rattle.stair_member.specs.declared.why.Why.TheVariants.{Here}
@@ -49,7 +49,7 @@ pub found_current : (m : Membership) (f : Findings) (surveyed : IsSurveyed f m) 
 found_current m f surveyed looked =
     current_agree m.array.geometry 32 (fits looked) f.image (read_image f) surveyed.current (agree f) surveyed.is_current
 
-module _ (s : State) (before : List Happening) (old new : Telling) (f : Findings) (found : AreFound f old new) (honest : IsTrue new.honest)
+module _ (s : State) (before : List Happening) (old new : RackState) (f : Findings) (found : AreFound f old new) (honest : IsTrue new.honest)
     (is : IsHistory old.history) (ran : Ran no_write old.history new.history) (began : Ran any_call before old.history)
     (stands : Represents s old.history) (none : NothingReturned old.history new.history)
     (tolerated : ToleratedSince s.geometry before new.history) where
@@ -210,7 +210,7 @@ module _ (s : State) (before : List Happening) (old new : Telling) (f : Findings
   finds (Err (TwoArrays one two)) answered = absurd (not_two answered.0 answered.1 answered.2)
   finds (Err (TooFew whys)) answered = absurd (apart answered.3 (few_missing answered.0 answered.1))
 
-pub finds_array : (s : State) (before : List Happening) (old new : Telling) (answer : Result Membership SurveyFault) → Surveys answer old new
+pub finds_array : (s : State) (before : List Happening) (old new : RackState) (answer : Result Membership SurveyFault) → Surveys answer old new
     → IsTrue new.honest → Ran any_call before old.history → Represents s old.history → NothingReturned old.history new.history
     → ToleratedSince s.geometry before new.history → FindsArray s answer before old.history new.history
 finds_array s before old new answer surveys honest began stands none tolerated =

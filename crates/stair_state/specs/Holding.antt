@@ -20,18 +20,18 @@ use Rattle.stair_state.specs.Represents.{AreSteady, Encodings, HaveSeats, IsLarg
 use Rattle.stair_state.specs.State.{State, new_content}
 
 -- for each slot the epoch in which the medium was admitted that holds its chunk; None where none does
-abbrev pub Holders : Type 0
-Holders = ℕ → Option ℕ
+abbrev pub CurrentMedia : Type 0
+CurrentMedia = ℕ → Option ℕ
 
 -- A medium of slot j with these cells is the slot's holder: it bears a superblock with that joined number, in either place.
-pub record IsHolder (g : Geometry) (holders : Holders) (j : ℕ) (cell : ℕ → Cell) : Type 0 where
+pub record IsCurrentMedium (g : Geometry) (current_media : CurrentMedia) (j : ℕ) (cell : ℕ → Cell) : Type 0 where
   pub super : Superblock
   pub bears : Bears g j cell super
-  pub joined : holders j ≡ Some super.joined
+  pub joined : current_media j ≡ Some super.joined
 
 -- each of these slots has its holder
-abbrev pub HaveHolders : Geometry → Holders → Image → (ℕ → Type 0) → Type 0
-HaveHolders g holders image some = (j : ℕ) → some j → IsHolder g holders j ((image j).cell)
+abbrev pub HaveCurrentMedia : Geometry → CurrentMedia → Image → (ℕ → Type 0) → Type 0
+HaveCurrentMedia g current_media image some = (j : ℕ) → some j → IsCurrentMedium g current_media j ((image j).cell)
 
 -- a medium of the image bears this superblock, of no earlier epoch
 pub record IsBorneSince (g : Geometry) (since : ℕ) (image : Image) (s : Superblock) : Type 0 where
@@ -54,26 +54,26 @@ HasOvertaken g image a j = mark_at a j ≡ Live
     → OfAdmitted g image (joined_at a j) (λ s. a.array.epoch < s.array.epoch) j
 
 -- the draw of slot j's holder is at least every epoch that a medium bears, in a slot or outside
-abbrev pub HolderReserved : Geometry → Holders → Image → ℕ → Type 0
-HolderReserved g holders image j = (joined : ℕ) → holders j ≡ Some joined
+abbrev pub CurrentMediumReserved : Geometry → CurrentMedia → Image → ℕ → Type 0
+CurrentMediumReserved g current_media image j = (joined : ℕ) → current_media j ≡ Some joined
     → OfAdmitted g image joined (λ s. (i : ℕ) (q : Location) (t : Superblock)
     → IsBorne g image i q t → t.array.epoch ≤ s.draw) j
 
 -- The image is consistent however its media lie, by these holders, since this epoch: marks and joined numbers of the state
 -- aside.
-pub record IsConsistentBy (s : State) (encodings : Encodings s) (holders : Holders) (since : ℕ)
+pub record IsConsistentBy (s : State) (encodings : Encodings s) (current_media : CurrentMedia) (since : ℕ)
     (image : Image) : Type 0 where
   -- of an earlier epoch, all media but m that were live in it name a later one
   pub overtaken : (i : ℕ) (p : Location) (a : Superblock) → IsBorne s.geometry image i p a
       → a.array.epoch < since → AllBut s.geometry.n s.geometry.m (HasOvertaken s.geometry image a)
   -- all holders but m have drawn every epoch that a medium bears
-  pub reserved : AllBut s.geometry.n s.geometry.m (HolderReserved s.geometry holders image)
+  pub reserved : AllBut s.geometry.n s.geometry.m (CurrentMediumReserved s.geometry current_media image)
   -- since then a slot is marked live with its holder alone
   pub live : (j : ℕ) (a : Superblock) → IsBorneSince s.geometry since image a
-      → mark_at a j ≡ Live → holders j ≡ Some (joined_at a j)
+      → mark_at a j ≡ Live → current_media j ≡ Some (joined_at a j)
   -- and as one that is rebuilt, if it has one, with that alone too
   pub rebuilt : (j joined : ℕ) (a : Superblock) → IsBorneSince s.geometry since image a
-      → mark_at a j ≡ Rebuilding → holders j ≡ Some joined → joined ≡ joined_at a j
+      → mark_at a j ≡ Rebuilding → current_media j ≡ Some joined → joined ≡ joined_at a j
   -- and frozen mark and label are the state's
   pub frozen : (a : Superblock) → IsBorneSince s.geometry since image a
       → (a.array.frozen ≡ s.content.frozen) ⊎ (a.array.frozen ≡ (new_content s).frozen)
@@ -81,10 +81,10 @@ pub record IsConsistentBy (s : State) (encodings : Encodings s) (holders : Holde
       → (a.array.label ≡ s.content.label) ⊎ (a.array.label ≡ (new_content s).label)
   -- whichever slots have their holders, one of which has a gate that isn't lost, represent the stripes
   pub forms : (to : Image) (some : Slots) → IsReassembly image to
-      → HaveHolders s.geometry holders to (HasSlot some) → HasGate (HasSlot some) to
+      → HaveCurrentMedia s.geometry current_media to (HasSlot some) → HasGate (HasSlot some) to
       → RepresentsBy s.geometry encodings.old encodings.new (HasSlot some) to
   pub full : (to : Image) (j : ℕ) → IsReassembly image to
-      → IsHolder s.geometry holders j ((to j).cell) → IsLargeEnough s.geometry (to j).size
+      → IsCurrentMedium s.geometry current_media j ((to j).cell) → IsLargeEnough s.geometry (to j).size
   -- no gate is open on a medium that is rebuilt
   pub rebuilding : (to : Image) (j : ℕ) (a b : Superblock) (redo : Redo) → IsReassembly image to
       → IsBorneSince s.geometry since image a → mark_at a j ≡ Rebuilding
@@ -98,15 +98,15 @@ pub record IsConsistentBy (s : State) (encodings : Encodings s) (holders : Holde
       → IsBorne s.geometry image j q b → a.joined ≡ b.joined → p ≡ q
 
 -- what a crash now may leave is so, and has the state's marks where they are known
-pub record IsConsistentSince (s : State) (holders : Holders) (since : ℕ) (h : List Happening)
+pub record IsConsistentSince (s : State) (current_media : CurrentMedia) (since : ℕ) (h : List Happening)
     : Type 0 where
   pub encodings : Encodings s
-  pub each : EachImage (IsConsistentBy s encodings holders since) h
+  pub each : EachImage (IsConsistentBy s encodings current_media since) h
   pub seats : HaveSeats s.seats s.geometry h
   pub steady : AreSteady s.geometry h
 
 -- it is consistent under reassembly: by some holders, since some epoch
 pub record IsConsistentUnderReassembly (s : State) (h : List Happening) : Type 0 where
-  pub holders : Holders
+  pub current_media : CurrentMedia
   pub since : ℕ
-  pub is : IsConsistentSince s holders since h
+  pub is : IsConsistentSince s current_media since h

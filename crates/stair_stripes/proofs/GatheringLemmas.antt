@@ -14,12 +14,12 @@ use Rattle.stair_rack.specs.History.{Happening, Read, SlotCall}
 use Rattle.stair_rack.specs.RackCounts.{NoneFalls}
 use Rattle.stair_rack.specs.Sector.{Cell, Good, Damaged}
 use Rattle.stair_rack.specs.Stretch.{WasAnswered}
-use Rattle.stair_rack.specs.Telling.{Telling, IsGone, IsLater, IsReading}
+use Rattle.stair_rack.specs.RackState.{RackState, IsGone, IsLater, IsReading}
 use Rattle.stair_rack.specs.declared.rack.Got.TheVariants as got
 use Rattle.stair_rack.proofs.GoneLemmas.{is_gone_wider}
 use Rattle.stair_rack.proofs.MomentLemmas.{moment_between, ran_any, ran_join, ran_none, ran_weakened}
 use Rattle.stair_rack.proofs.PassCounts.{NoneFalls-then}
-use Rattle.stair_rack.proofs.TellingLemmas.{later_none, reading_wider}
+use Rattle.stair_rack.proofs.RackStateLemmas.{later_none, reading_wider}
 use Rattle.stair_journal.proofs.ToldLemmas.{answered_cases}
 use Rattle.stair_stripes.specs.Gathering.{Gathers, IsAway, IsCellOf, IsReadOfCell}
 use Rattle.stair_stripes.specs.declared.gathering.Gathered.{Gathered}
@@ -32,7 +32,7 @@ reads_wider g live t W V old new grows ran =
     (λ j c read. record { on = read.on; row = read.row; is_wanted = grows read.row j read.is_wanted; answer = read.answer; is = read.is }) ran
 
 -- the same cells are gathered
-pub gathers_same : (g : Geometry) (live : Slots) (t : ℕ) (W V : ℕ → ℕ → Type 0) (gathered : Gathered) (was into : Stripe) (old new : Telling)
+pub gathers_same : (g : Geometry) (live : Slots) (t : ℕ) (W V : ℕ → ℕ → Type 0) (gathered : Gathered) (was into : Stripe) (old new : RackState)
     → ((i j : ℕ) → W i j ↔ V i j) → Gathers g live t W gathered was into old new → Gathers g live t V gathered was into old new
 gathers_same g live t W V gathered was into old new same before = record {
   given = λ i j wanted kept. before.given i j ((same i j).1 wanted) kept;
@@ -57,7 +57,7 @@ read_beside : (g : Geometry) (live : Slots) (t : ℕ) (W : ℕ → ℕ → Type 
 read_beside g live t W j c read = subst (λ (d : SlotCall). IsBesideAttach d) (sym read.is) tt
 
 -- What was gathered of the cells W is known at a later moment, when those of V are gathered.
-module _ (g : Geometry) (live : Slots) (t : ℕ) (W V : ℕ → ℕ → Type 0) (gathered : Gathered) (was into : Stripe) (old mid new : Telling)
+module _ (g : Geometry) (live : Slots) (t : ℕ) (W V : ℕ → ℕ → Type 0) (gathered : Gathered) (was into : Stripe) (old mid new : RackState)
     (before : Gathers g live t W gathered was into old mid) (later : IsLater mid new)
     (grows : (i j : ℕ) → W i j → V i j) (ran : IsTrue new.honest → Ran (IsReadOfCell g live t V) mid.history new.history) where
   -- the calls that gather

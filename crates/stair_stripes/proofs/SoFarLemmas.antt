@@ -11,13 +11,13 @@ use Rattle.stair_rack.specs.Answers.{Calls, Ran, no_call}
 use Rattle.stair_rack.specs.History.{Happening, Read}
 use Rattle.stair_rack.specs.Sector.{Good, Damaged}
 use Rattle.stair_rack.specs.Stretch.{WasAnswered}
-use Rattle.stair_rack.specs.Telling.{Telling, IsGone, IsLater, IsReading}
+use Rattle.stair_rack.specs.RackState.{RackState, IsGone, IsLater, IsReading}
 use Rattle.stair_rack.specs.declared.rack.Got.{Got}
 use Rattle.stair_rack.specs.declared.rack.Got.TheVariants as got
 use Rattle.stair_rack.proofs.MomentLemmas.{IsThis, calls_ran, ran_none, ran_weakened}
 use Rattle.stair_rack.proofs.PassCounts.{NoneFalls-same}
 use Rattle.stair_rack.proofs.StretchLemmas.{answered_allowed}
-use Rattle.stair_rack.proofs.TellingLemmas.{later_none}
+use Rattle.stair_rack.proofs.RackStateLemmas.{later_none}
 use Rattle.stair_stripes.specs.Gathering.{Gathers, IsCellOf, IsReadOfCell}
 use Rattle.stair_stripes.specs.Reads.{ReadsInTurn}
 use Rattle.stair_stripes.specs.GatheringSteps.{ErasesChunk, GathersBefore, GoesOn, IsWantedBefore}
@@ -115,12 +115,12 @@ read_ran g live t slot row V answer old new is_live is_wanted told =
 never_answered : (h : List Happening) (j k : ℕ) → ¬ WasAnswered j (Read k got.Gone) h h
 never_answered h j k was = answered_allowed {allowed = no_call} (ran_none {allowed = no_call} h) was
 
-pub goes_none : (g : Geometry) (t : ℕ) (wanted : CellSet) (slot : ℕ) (gathered : Gathered) (into : Stripe) (now : Telling)
+pub goes_none : (g : Geometry) (t : ℕ) (wanted : CellSet) (slot : ℕ) (gathered : Gathered) (into : Stripe) (now : RackState)
     → GoesOn g t wanted slot slot 0 gathered gathered into into now now
 goes_none g t wanted slot gathered into now = record { on = λ live was old is_live before. before }
 
 module _ (g : Geometry) (t : ℕ) (wanted : CellSet) (in_stripe : IsInStripe g wanted) (slot row : ℕ) (first so_far : Gathered) (into into' : Stripe)
-    (mid now : Telling) (goes : GoesOn g t wanted slot slot row first so_far into into' mid now) where
+    (mid now : RackState) (goes : GoesOn g t wanted slot slot row first so_far into into' mid now) where
   -- a cell of the chunk isn't wanted
   pub goes_skipped : ¬ HasCell wanted row slot → GoesOn g t wanted slot slot (row + 1) first so_far into into' mid now
   goes_skipped unwanted = record {
@@ -153,7 +153,7 @@ module _ (g : Geometry) (t : ℕ) (wanted : CellSet) (in_stripe : IsInStripe g w
   }
 
   -- a wanted cell was read
-  module _ (new : Telling) (row_in : row < g.r) (slot_in : slot < g.n) (is_wanted : HasCell wanted row slot) (later : IsLater now new) (answer : Got)
+  module _ (new : RackState) (row_in : row < g.r) (slot_in : slot < g.n) (is_wanted : HasCell wanted row slot) (later : IsLater now new) (answer : Got)
       (told : IsTrue new.honest → Calls now.history new.history slot (Read (cell_sector g t row) answer)) where
     ran : (V : ℕ → ℕ → Type 0) → V row slot → (live : Slots) → HasSlot live slot → IsTrue new.honest
         → Ran (IsReadOfCell g live t V) now.history new.history
@@ -181,7 +181,7 @@ module _ (g : Geometry) (t : ℕ) (wanted : CellSet) (in_stripe : IsInStripe g w
         let gone : answer ≡ got.Gone = cc in
         (this.0, gone)
 
-    there : (live : Slots) (was : Stripe) (old : Telling) → GathersBefore g live t wanted slot row so_far was into' old now → ¬ HasSlot so_far.gone slot
+    there : (live : Slots) (was : Stripe) (old : RackState) → GathersBefore g live t wanted slot row so_far was into' old now → ¬ HasSlot so_far.gone slot
     there live was old here gone = omega (arith, here.gone_before slot gone)
 
     pub goes_good : answer ≢ got.Gone → (bytes : List ℕ) → IsWellFormed (with_cell into' row slot bytes) → IsReading slot (cell_sector g t row) now new (Good bytes)
@@ -249,7 +249,7 @@ module _ (g : Geometry) (t : ℕ) (wanted : CellSet) (in_stripe : IsInStripe g w
 
 -- ALL CHUNKS
 
-pub before_none : (g : Geometry) (live : Slots) (t : ℕ) (wanted : CellSet) (gathered : Gathered) (into : Stripe) (now : Telling)
+pub before_none : (g : Geometry) (live : Slots) (t : ℕ) (wanted : CellSet) (gathered : Gathered) (into : Stripe) (now : RackState)
     → IsStripeOf g into → ((i j : ℕ) → ¬ HasCell gathered.erased i j) → IsCellSet gathered.erased → ((j : ℕ) → ¬ HasSlot gathered.gone j)
     → IsSlotSet gathered.gone → GathersBefore g live t wanted 0 0 gathered into into now now
 before_none g live t wanted gathered into now shape no_cell formed_erased no_slot formed_gone = record {
@@ -278,7 +278,7 @@ before_none g live t wanted gathered into now shape no_cell formed_erased no_slo
     none i j (is_wanted, inl less) = omega (arith, less)
     none i j (is_wanted, inr here) = omega (arith, here.1)
 
-module _ (g : Geometry) (live : Slots) (t : ℕ) (wanted : CellSet) (gathered : Gathered) (was into : Stripe) (old now : Telling) where
+module _ (g : Geometry) (live : Slots) (t : ℕ) (wanted : CellSet) (gathered : Gathered) (was into : Stripe) (old now : RackState) where
   -- the chunk of a slot that isn't live is erased
   pub before_dead : (slot : ℕ) (erased : CellSet) → GathersBefore g live t wanted slot 0 gathered was into old now → ¬ HasSlot live slot
       → ErasesChunk wanted slot gathered.erased erased

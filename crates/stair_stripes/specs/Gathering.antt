@@ -10,7 +10,7 @@ use Rattle.stair_rack.specs.History.{SlotCall, Read}
 use Rattle.stair_rack.specs.RackCounts.{NoneFalls}
 use Rattle.stair_rack.specs.Sector.{Good, Damaged}
 use Rattle.stair_rack.specs.Stretch.{WasAnswered}
-use Rattle.stair_rack.specs.Telling.{Telling, IsGone, IsReading}
+use Rattle.stair_rack.specs.RackState.{RackState, IsGone, IsReading}
 use Rattle.stair_rack.specs.declared.rack.Got.{Got}
 use Rattle.stair_rack.specs.declared.rack.Got.TheVariants as got
 use Rattle.stair_stripes.specs.declared.gathering.Gathered.{Gathered}
@@ -35,7 +35,7 @@ IsAway live gone j = (¬ HasSlot live j) ⊎ HasSlot gone j
 -- What gathering the wanted cells of stripe t does. Every cell of a slot that isn't live or was gone is erased, and
 -- every cell that read as bad, and no other one.
 pub record Gathers (g : Geometry) (live : Slots) (t : ℕ) (wanted : ℕ → ℕ → Type 0)
-    (gathered : Gathered) (was into : Stripe) (old new : Telling) : Type 0 where
+    (gathered : Gathered) (was into : Stripe) (old new : RackState) : Type 0 where
   pub honest : old.honest ≡ new.honest
   -- a cell that isn't erased is given as it was read, and its slot is live and wasn't gone
   pub given : (i j : ℕ) → wanted i j → ¬ HasCell gathered.erased i j → ¬ IsAway live gathered.gone j

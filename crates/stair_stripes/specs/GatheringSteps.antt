@@ -5,7 +5,7 @@ use Rattle.stair_model.specs.Geometry.{Geometry}
 use Rattle.stair_model.specs.Slots.{Slots, HasSlot}
 use Rattle.stair_model.specs.Stripe.{Stripe}
 use Rattle.stair_rack.specs.History.{Happening}
-use Rattle.stair_rack.specs.Telling.{Telling}
+use Rattle.stair_rack.specs.RackState.{RackState}
 use Rattle.stair_stripes.specs.Gathering.{Gathers}
 use Rattle.stair_rack.specs.Reading.{EachBelow}
 use Rattle.stair_stripes.specs.Reads.{ReadsCell, ReadsChunk}
@@ -24,7 +24,7 @@ pub record ReadsBefore (g : Geometry) (live : Slots) (t : ℕ) (wanted : CellSet
 
 -- the wanted cells before this row of this slot's chunk are gathered, and no later slot was asked
 pub record GathersBefore (g : Geometry) (live : Slots) (t : ℕ) (wanted : CellSet) (slot row : ℕ)
-    (gathered : Gathered) (was into : Stripe) (old new : Telling) : Type 0 where
+    (gathered : Gathered) (was into : Stripe) (old new : RackState) : Type 0 where
   pub gathers : Gathers g live t (IsWantedBefore wanted slot row) gathered was into old new
   pub gone_before : (j : ℕ) → HasSlot gathered.gone j → j < slot
   pub in_turn : IsTrue new.honest
@@ -32,8 +32,8 @@ pub record GathersBefore (g : Geometry) (live : Slots) (t : ℕ) (wanted : CellS
 
 -- Where the cells before slot `from` were gathered, and it is live, those before this row of this slot's chunk now are.
 pub record GoesOn (g : Geometry) (t : ℕ) (wanted : CellSet) (from slot row : ℕ)
-    (gathered gathered' : Gathered) (into into' : Stripe) (mid new : Telling) : Type 0 where
-  pub on : (live : Slots) (was : Stripe) (old : Telling) → HasSlot live from
+    (gathered gathered' : Gathered) (into into' : Stripe) (mid new : RackState) : Type 0 where
+  pub on : (live : Slots) (was : Stripe) (old : RackState) → HasSlot live from
       → GathersBefore g live t wanted from 0 gathered was into old mid
       → GathersBefore g live t wanted slot row gathered' was into' old new
 

@@ -36,7 +36,7 @@ pub fn gather<R: Rack>(
 ) -> Gathered
     requires number { stripe < geometry.now.stripes }
     requires stripe { IsStripeOf geometry.now into.old }
-    ensures told { Gathers geometry.now live stripe (IsCellOf geometry.now) result into.old into.new
+    ensures does { Gathers geometry.now live stripe (IsCellOf geometry.now) result into.old into.new
         (told R.Rack rack.old) (told R.Rack rack.new) }
     ensures in_turn { IsTrue R.is_honest →
         ReadsInTurn geometry.now live stripe (IsCellOf geometry.now) result.gone
@@ -60,7 +60,7 @@ pub fn gather_cells<R: Rack>(
     requires number { stripe < geometry.now.stripes }
     requires stripe { IsStripeOf geometry.now into.old }
     requires wanted { IsInStripe geometry.now wanted.now }
-    ensures told { Gathers geometry.now live stripe (HasCell wanted.now) result into.old into.new
+    ensures does { Gathers geometry.now live stripe (HasCell wanted.now) result into.old into.new
         (told R.Rack rack.old) (told R.Rack rack.new) }
     ensures in_turn { IsTrue R.is_honest →
         ReadsInTurn geometry.now live stripe (HasCell wanted.now) result.gone

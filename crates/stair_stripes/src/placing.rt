@@ -29,7 +29,7 @@ pub fn place<R: Rack>(
 ) -> Slots
     requires redo { IsRedo geometry.now redo.now }
     requires stripe { IsStripeOf geometry.now stripe.now }
-    ensures told { DoesPhase (cell_writes geometry.now redo.now stripe.now) to result
+    ensures does { DoesPhase (cell_writes geometry.now redo.now stripe.now) to result
         (told R.Rack rack.old) (told R.Rack rack.new) }
     ensures reads { R.reads rack.new ≡ R.reads rack.old }
 {
@@ -57,7 +57,7 @@ pub fn write_chunk<R: Rack>(
     requires slot_in { slot < geometry.now.n }
     requires redo { IsRedo geometry.now redo.now }
     requires stripe { IsStripeOf geometry.now stripe.now }
-    ensures told { IsTrue R.is_honest →
+    ensures does { IsTrue R.is_honest →
         Writing (cell_writes geometry.now redo.now stripe.now) (IsSlot slot)
         (IsGoneSlot slot result) (IsOnSlot slot) (R.history rack.old)
         (R.history rack.new) }

@@ -1,4 +1,4 @@
-use stair_monitor::{TEXT_LIMIT, print_event, read_event};
+use stair_monitor::{MAX_EVENT_LINE, print_event, read_event};
 use stair_rack::Event;
 
 // Each row is an event, and its line.
@@ -39,7 +39,7 @@ const TEXTS: [(Event, &[u8]); 7] = [
 #[test]
 fn prints_lines_that_are_read_again(rt: HostRuntime) {
     for (event, text) in TEXTS {
-        let mut into = [b'#'; TEXT_LIMIT];
+        let mut into = [b'#'; MAX_EVENT_LINE];
         let len = print_event(event, &mut into);
         assert_eq!(rt; &into[..len], text);
         assert_eq!(rt; into[len], b'#');

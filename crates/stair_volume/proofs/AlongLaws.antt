@@ -1,19 +1,19 @@
--- What is so of what an array holds at each moment of a story, since it is so along the plan that the story follows.
+-- What is so of what an array holds at each moment of a trace, since it is so along the program that the trace follows.
 use Rattle.std.proofs.Common.{◌≡◌, ◌≢◌, ◌∙◌, ◌<◌, ◌++◌, ◌⊎◌, ℕ, List, [], ◌∷◌, append-nil, append_assoc, inl, inr, length, Option, None, Some, Ok, Err, refl, sym, ap, subst}
 use Rattle.std.specs.Prelude.{Bool, false}
 use Rattle.stair_rack.specs.History.{Happening}
 use Rattle.stair_rack.specs.declared.watcher.Event.{Event}
 use Rattle.stair_state.specs.State.{BlocksAre, Change, Content, State, changed, changed_if, new_content}
-use Rattle.stair_session.specs.Returning.{Returning}
+use Rattle.stair_invariant.specs.Returning.{Returning}
 use Rattle.stair_array.specs.Machine.{AlreadyArray, Answer, CutWithin, GivenBy, EpochsSpent, Frozen, Gone, IsAsItWas, IsFinal, JournalLost, Lost, MayBeCut, OutOfRange, ReadBlock, Refusal, Row, SlotBusy, SmallDevice, Step, TooFew, WriteBlocks, change_of}
 use Rattle.stair_member.specs.Seats.{Seats}
-use Rattle.stair_story.specs.Plan.{Plan, Over, Ask, Take, Put, Allocate, Do, Try, RebuildAll}
-use Rattle.stair_story.specs.Question.{IsReply, Reply}
-use Rattle.stair_story.specs.Run.{Goes, IsNext, IsRefusedAgain, Now, Runs, TakesStep, stop_of}
-use Rattle.stair_story.specs.Story.{AreEnough, Deed, Found, Took, TookLast, TakeFailed, HasPut, PutFailed, Grew, RanOut, Did, Stepped, Leads, Moves, put_in, taken_in}
+use Rattle.stair_command.specs.Program.{Program, Over, Ask, Take, Put, Allocate, Do, Try, RebuildAll}
+use Rattle.stair_command.specs.Question.{IsReply, Reply}
+use Rattle.stair_command.specs.Run.{Goes, IsNext, IsRefusedAgain, Now, Runs, TakesStep, stop_of}
+use Rattle.stair_command.specs.Trace.{AreEnough, TraceItem, Found, Took, TookLast, TakeFailed, HasPut, PutFailed, Grew, RanOut, Did, Stepped, AlongTrace, StepsProgram, put_in, taken_in}
 use Rattle.stair_status.specs.declared.status.Status.{Status}
 use Rattle.stair_status.specs.declared.status.Status.TheVariants.{Done, InputFault, OutputFault, OutOfMemory}
-use Rattle.stair_story.proofs.LifeLaws.{Came, came_row, some_none}
+use Rattle.stair_command.proofs.LifeLaws.{Came, came_row, some_none}
 
 -- what has come so far: what the array holds, what was taken, and what was put out
 pub record Come : Type 0 where
@@ -30,11 +30,11 @@ puts come bytes = record come { put = come.put ++ bytes }
 abbrev pub writes : Come → ℕ → List (List ℕ) → Come
 writes come first contents = record come { content = changed (BlocksAre first contents) come.content }
 
--- the plan is over, and not all was done
-pub record EndsUndone (plan : Plan) : Type 0 where
+-- the program is over, and not all was done
+pub record EndsUndone (program : Program) : Type 0 where
   pub status : Status
   pub undone : status ≢ Done
-  pub is : plan ≡ Over status
+  pub is : program ≡ Over status
 
 -- an array that wasn't stopped holds this, and nothing is in doubt
 pub record IsCertain (now : Now) (come : Come) : Type 0 where
@@ -59,42 +59,42 @@ final_stops T (AlreadyArray j) final none = absurd final
 pub certain_maybe : (s : State) → s.in_doubt ≡ None → new_content s ≡ s.content
 certain_maybe s none = ap (λ (o : Option Change). changed_if o s.content) none
 
--- what was taken, and put out, over a deed and then a story
-taken_more : (taken : List ℕ) (deed : Deed) (story : List Deed) → (taken ++ taken_in (deed ∷ [])) ++ taken_in story ≡ taken ++ taken_in (deed ∷ story)
-taken_more taken (Found asked) story = ap (λ (l : List ℕ). l ++ taken_in story) (append-nil taken)
-taken_more taken (Took bytes) story = append_assoc taken (bytes ++ []) (taken_in story) ∙ ap (λ (l : List ℕ). taken ++ (l ++ taken_in story)) (append-nil bytes)
-taken_more taken (TookLast bytes) story = append_assoc taken (bytes ++ []) (taken_in story) ∙ ap (λ (l : List ℕ). taken ++ (l ++ taken_in story)) (append-nil bytes)
-taken_more taken (TakeFailed bytes) story = append_assoc taken (bytes ++ []) (taken_in story) ∙ ap (λ (l : List ℕ). taken ++ (l ++ taken_in story)) (append-nil bytes)
-taken_more taken (HasPut bytes) story = ap (λ (l : List ℕ). l ++ taken_in story) (append-nil taken)
-taken_more taken (PutFailed part) story = ap (λ (l : List ℕ). l ++ taken_in story) (append-nil taken)
-taken_more taken Grew story = ap (λ (l : List ℕ). l ++ taken_in story) (append-nil taken)
-taken_more taken RanOut story = ap (λ (l : List ℕ). l ++ taken_in story) (append-nil taken)
-taken_more taken (Did action outcome) story = ap (λ (l : List ℕ). l ++ taken_in story) (append-nil taken)
-taken_more taken (Stepped step answer events left) story = ap (λ (l : List ℕ). l ++ taken_in story) (append-nil taken)
+-- what was taken, and put out, over an item and then a trace
+taken_more : (taken : List ℕ) (item : TraceItem) (trace : List TraceItem) → (taken ++ taken_in (item ∷ [])) ++ taken_in trace ≡ taken ++ taken_in (item ∷ trace)
+taken_more taken (Found asked) trace = ap (λ (l : List ℕ). l ++ taken_in trace) (append-nil taken)
+taken_more taken (Took bytes) trace = append_assoc taken (bytes ++ []) (taken_in trace) ∙ ap (λ (l : List ℕ). taken ++ (l ++ taken_in trace)) (append-nil bytes)
+taken_more taken (TookLast bytes) trace = append_assoc taken (bytes ++ []) (taken_in trace) ∙ ap (λ (l : List ℕ). taken ++ (l ++ taken_in trace)) (append-nil bytes)
+taken_more taken (TakeFailed bytes) trace = append_assoc taken (bytes ++ []) (taken_in trace) ∙ ap (λ (l : List ℕ). taken ++ (l ++ taken_in trace)) (append-nil bytes)
+taken_more taken (HasPut bytes) trace = ap (λ (l : List ℕ). l ++ taken_in trace) (append-nil taken)
+taken_more taken (PutFailed part) trace = ap (λ (l : List ℕ). l ++ taken_in trace) (append-nil taken)
+taken_more taken Grew trace = ap (λ (l : List ℕ). l ++ taken_in trace) (append-nil taken)
+taken_more taken RanOut trace = ap (λ (l : List ℕ). l ++ taken_in trace) (append-nil taken)
+taken_more taken (Did action outcome) trace = ap (λ (l : List ℕ). l ++ taken_in trace) (append-nil taken)
+taken_more taken (Stepped step answer events left) trace = ap (λ (l : List ℕ). l ++ taken_in trace) (append-nil taken)
 
-put_more : (put : List ℕ) (deed : Deed) (story : List Deed) → (put ++ put_in (deed ∷ [])) ++ put_in story ≡ put ++ put_in (deed ∷ story)
-put_more put (HasPut bytes) story = append_assoc put (bytes ++ []) (put_in story) ∙ ap (λ (l : List ℕ). put ++ (l ++ put_in story)) (append-nil bytes)
-put_more put (PutFailed part) story = append_assoc put (part ++ []) (put_in story) ∙ ap (λ (l : List ℕ). put ++ (l ++ put_in story)) (append-nil part)
-put_more put (Found asked) story = ap (λ (l : List ℕ). l ++ put_in story) (append-nil put)
-put_more put (Took bytes) story = ap (λ (l : List ℕ). l ++ put_in story) (append-nil put)
-put_more put (TookLast bytes) story = ap (λ (l : List ℕ). l ++ put_in story) (append-nil put)
-put_more put (TakeFailed bytes) story = ap (λ (l : List ℕ). l ++ put_in story) (append-nil put)
-put_more put Grew story = ap (λ (l : List ℕ). l ++ put_in story) (append-nil put)
-put_more put RanOut story = ap (λ (l : List ℕ). l ++ put_in story) (append-nil put)
-put_more put (Did action outcome) story = ap (λ (l : List ℕ). l ++ put_in story) (append-nil put)
-put_more put (Stepped step answer events left) story = ap (λ (l : List ℕ). l ++ put_in story) (append-nil put)
+put_more : (put : List ℕ) (item : TraceItem) (trace : List TraceItem) → (put ++ put_in (item ∷ [])) ++ put_in trace ≡ put ++ put_in (item ∷ trace)
+put_more put (HasPut bytes) trace = append_assoc put (bytes ++ []) (put_in trace) ∙ ap (λ (l : List ℕ). put ++ (l ++ put_in trace)) (append-nil bytes)
+put_more put (PutFailed part) trace = append_assoc put (part ++ []) (put_in trace) ∙ ap (λ (l : List ℕ). put ++ (l ++ put_in trace)) (append-nil part)
+put_more put (Found asked) trace = ap (λ (l : List ℕ). l ++ put_in trace) (append-nil put)
+put_more put (Took bytes) trace = ap (λ (l : List ℕ). l ++ put_in trace) (append-nil put)
+put_more put (TookLast bytes) trace = ap (λ (l : List ℕ). l ++ put_in trace) (append-nil put)
+put_more put (TakeFailed bytes) trace = ap (λ (l : List ℕ). l ++ put_in trace) (append-nil put)
+put_more put Grew trace = ap (λ (l : List ℕ). l ++ put_in trace) (append-nil put)
+put_more put RanOut trace = ap (λ (l : List ℕ). l ++ put_in trace) (append-nil put)
+put_more put (Did action outcome) trace = ap (λ (l : List ℕ). l ++ put_in trace) (append-nil put)
+put_more put (Stepped step answer events left) trace = ap (λ (l : List ℕ). l ++ put_in trace) (append-nil put)
 
 module _ (IsSo : List ℕ → Content → Type 0) (IsEnd : Come → Type 0) where
   -- From here on, whatever the outside and an array that holds this answer, it is so of all that it holds on the way, and where all is
   -- done it ends so. Only blocks are read and written.
-  abbrev pub Stays : Plan → Come → Type 0
+  abbrev pub Stays : Program → Come → Type 0
   Stays (Over status) come = IsSo come.taken come.content × (status ≡ Done → IsEnd come)
   Stays (Ask question k) come = IsSo come.taken come.content × ((reply : Reply question) → IsReply question reply → Stays (k reply) come)
   Stays (Take least most k short) come = IsSo come.taken come.content
       × ((bytes : List ℕ) → AreEnough least most bytes → Stays (k bytes) (takes come bytes))
       × ((bytes : List ℕ) → length bytes < least → Stays (short bytes) (takes come bytes))
-  Stays (Put bytes plan) come = IsSo come.taken come.content × Stays plan (puts come bytes)
-  Stays (Allocate plan) come = IsSo come.taken come.content × Stays plan come
+  Stays (Put bytes program) come = IsSo come.taken come.content × Stays program (puts come bytes)
+  Stays (Allocate program) come = IsSo come.taken come.content × Stays program come
   Stays (Do action k) come = ⊥
   Stays (Try (ReadBlock b) k) come = IsSo come.taken come.content
       × ((bytes : List ℕ) (left : Bool) → bytes ≡ come.content.blocks b → Stays (k (Ok bytes) left) come)
@@ -106,33 +106,33 @@ module _ (IsSo : List ℕ → Content → Type 0) (IsEnd : Come → Type 0) wher
   Stays (RebuildAll slots done k) come = ⊥
 
   -- it is so of what is held now
-  pub stays_now : (plan : Plan) (come : Come) → Stays plan come → IsSo come.taken come.content
+  pub stays_now : (program : Program) (come : Come) → Stays program come → IsSo come.taken come.content
   stays_now (Over status) come stays = stays.0
   stays_now (Ask question k) come stays = stays.0
   stays_now (Take least most k short) come stays = stays.0
-  stays_now (Put bytes plan) come stays = stays.0
-  stays_now (Allocate plan) come stays = stays.0
+  stays_now (Put bytes program) come stays = stays.0
+  stays_now (Allocate program) come stays = stays.0
   stays_now (Do action k) come stays = absurd stays
   stays_now (Try (ReadBlock b) k) come stays = stays.0
   stays_now (Try (WriteBlocks first contents) k) come stays = stays.0
   stays_now (Try step k) come stays = absurd stays
   stays_now (RebuildAll slots done k) come stays = absurd stays
 
-  -- what a deed comes to: it is so, whatever becomes of a doubt; and the plan goes on so, or the array was stopped, and the plan is over
-  pub record Comes (rest : Plan) (new : Now) (last : Come) : Type 0 where
+  -- what an item comes to: it is so, whatever becomes of a doubt; and the program goes on so, or the array was stopped, and the program is over
+  pub record Comes (rest : Program) (new : Now) (last : Come) : Type 0 where
     pub so : IsSo last.taken new.state.content
     pub so_maybe : IsSo last.taken (new_content new.state)
     pub goes : new.stopped ≡ None → IsCertain new last × Stays rest last
     pub over : (refusal : Refusal) → new.stopped ≡ Some refusal → EndsUndone rest
 
-  pub record ComesBy (come : Come) (story : List Deed) (rest : Plan) (new : Now) : Type 0 where
+  pub record ComesBy (come : Come) (trace : List TraceItem) (rest : Program) (new : Now) : Type 0 where
     pub last : Come
-    pub taken : last.taken ≡ come.taken ++ taken_in story
-    pub put : last.put ≡ come.put ++ put_in story
+    pub taken : last.taken ≡ come.taken ++ taken_in trace
+    pub put : last.put ≡ come.put ++ put_in trace
     pub comes : Comes rest new last
 
   -- nothing was done to the array
-  still : (rest : Plan) (old new : Now) (last : Come) → new ≡ old → IsCertain old last → Stays rest last → Comes rest new last
+  still : (rest : Program) (old new : Now) (last : Come) → new ≡ old → IsCertain old last → Stays rest last → Comes rest new last
   still rest old new last same is stays =
       let held : new.state.content ≡ last.content = ap (λ (n : Now). n.state.content) same ∙ is.content in
       let none : new.state.in_doubt ≡ None = ap (λ (n : Now). n.state.in_doubt) same ∙ is.certain in
@@ -167,7 +167,7 @@ module _ (IsSo : List ℕ → Content → Type 0) (IsEnd : Come → Type 0) wher
       (subst (IsSo come.taken) (sym is) so, subst (IsSo come.taken) (sym either) made)
 
   -- a step that was refused
-  refused : (T : Type 0) (step : Step) (refusal : Refusal) (rest : Plan) (come : Come) (begun : Seats) (old new : Now) → IsCertain old come
+  refused : (T : Type 0) (step : Step) (refusal : Refusal) (rest : Program) (come : Come) (begun : Seats) (old new : Now) → IsCertain old come
       → Row step (Err refusal) begun old.state new.state → new.stopped ≡ stop_of {T = T} (Err refusal)
       → (IsAsItWas old.state new.state ⊎ (IsFinal refusal × MayBeCut (change_of step) old.state new.state))
       → EndsUndone rest → IsSo come.taken come.content → IsSo come.taken (changed_if (change_of step) come.content)
@@ -180,7 +180,7 @@ module _ (IsSo : List ℕ → Content → Type 0) (IsEnd : Come → Type 0) wher
         goes = λ unstopped. elim holds as (λ _. IsCertain new come × Stays rest come) [
           | inl same ↦ (
             record { unstopped = unstopped; content = same.content ∙ is.content; certain = same.in_doubt ∙ is.certain },
-            subst (λ (plan : Plan). Stays plan come) (sym ends.is) (so, λ done. absurd (ends.undone done)),
+            subst (λ (program : Program). Stays program come) (sym ends.is) (so, λ done. absurd (ends.undone done)),
           )
           | inr cut ↦ absurd (final_stops T refusal cut.0 (sym stops ∙ unstopped))
         ];
@@ -188,7 +188,7 @@ module _ (IsSo : List ℕ → Content → Type 0) (IsEnd : Come → Type 0) wher
       }
 
   -- a step that was done
-  done_so : (step : Step) (given : GivenBy step) (rest : Plan) (old new : Now) (last : Come) → new.stopped ≡ stop_of {T = GivenBy step} (Ok given)
+  done_so : (step : Step) (given : GivenBy step) (rest : Program) (old new : Now) (last : Come) → new.stopped ≡ stop_of {T = GivenBy step} (Ok given)
       → new.state.content ≡ last.content → new.state.in_doubt ≡ None → Stays rest last → Comes rest new last
   done_so step given rest old new last stops held none stays =
       let so = stays_now rest last stays in
@@ -200,7 +200,7 @@ module _ (IsSo : List ℕ → Content → Type 0) (IsEnd : Come → Type 0) wher
       }
 
   -- a read
-  read_comes : (b : ℕ) (answer : Answer (ReadBlock b)) (left : Bool) (k : Answer (ReadBlock b) → Bool → Plan) (come : Come) (begun : Seats) (old new : Now)
+  read_comes : (b : ℕ) (answer : Answer (ReadBlock b)) (left : Bool) (k : Answer (ReadBlock b) → Bool → Program) (come : Come) (begun : Seats) (old new : Now)
       → IsCertain old come → Stays (Try (ReadBlock b) k) come → Row (ReadBlock b) answer begun old.state new.state → new.stopped ≡ stop_of answer
       → Comes (k answer left) new come
   read_comes b (Ok bytes) left k come begun old new is stays row stops =
@@ -211,7 +211,7 @@ module _ (IsSo : List ℕ → Content → Type 0) (IsEnd : Come → Type 0) wher
 
   -- a write
   write_comes : (first : ℕ) (contents : List (List ℕ)) (answer : Answer (WriteBlocks first contents)) (left : Bool)
-      (k : Answer (WriteBlocks first contents) → Bool → Plan) (come : Come) (begun : Seats) (old new : Now)
+      (k : Answer (WriteBlocks first contents) → Bool → Program) (come : Come) (begun : Seats) (old new : Now)
       → IsCertain old come → Stays (Try (WriteBlocks first contents) k) come → Row (WriteBlocks first contents) answer begun old.state new.state
       → new.stopped ≡ stop_of answer
       → (last : Come) × (last.taken ≡ come.taken) × (last.put ≡ come.put) × Comes (k answer left) new last
@@ -232,7 +232,7 @@ module _ (IsSo : List ℕ → Content → Type 0) (IsEnd : Come → Type 0) wher
 
   -- any step, by its own answer
   step_comes : (returning : Returning) (before : List Happening) (step : Step) (answer : Answer step) (events : List Event) (left : Bool)
-      (k : Answer step → Bool → Plan) (come : Come) (old new : Now) → IsCertain old come → Stays (Try step k) come
+      (k : Answer step → Bool → Program) (come : Come) (old new : Now) → IsCertain old come → Stays (Try step k) come
       → TakesStep returning before step answer events old new ⊎ IsRefusedAgain step answer old new
       → ComesBy come (Stepped step answer events left ∷ []) (k answer left) new
   step_comes returning before (ReadBlock b) answer events left k come old new is stays (inl taken) = record {
@@ -247,26 +247,26 @@ module _ (IsSo : List ℕ → Content → Type 0) (IsEnd : Come → Type 0) wher
   step_comes returning before step answer events left k come old new is stays (inl taken) = absurd stays
   step_comes returning before step answer events left k come old new is stays (inr again) = absurd (some_none again.stopped is.unstopped)
 
-  -- nothing was done to the array, and the plan goes on so
-  on_still : (deed : Deed) (rest next : Plan) (come last : Come) (old new : Now) → new ≡ old → IsCertain old come → last.content ≡ come.content
-      → last.taken ≡ come.taken ++ taken_in (deed ∷ []) → last.put ≡ come.put ++ put_in (deed ∷ []) → rest ≡ next → Stays next last
-      → ComesBy come (deed ∷ []) rest new
-  on_still deed rest next come last old new same is held taken put goes stays = record {
+  -- nothing was done to the array, and the program goes on so
+  on_still : (item : TraceItem) (rest next : Program) (come last : Come) (old new : Now) → new ≡ old → IsCertain old come → last.content ≡ come.content
+      → last.taken ≡ come.taken ++ taken_in (item ∷ []) → last.put ≡ come.put ++ put_in (item ∷ []) → rest ≡ next → Stays next last
+      → ComesBy come (item ∷ []) rest new
+  on_still item rest next come last old new same is held taken put goes stays = record {
     last = last;
     taken = taken;
     put = put;
     comes = still rest old new last same (record { unstopped = is.unstopped; content = is.content ∙ sym held; certain = is.certain })
-        (subst (λ (plan : Plan). Stays plan last) (sym goes) stays);
+        (subst (λ (program : Program). Stays program last) (sym goes) stays);
   }
 
-  -- where the plan is over by a fault
+  -- where the program is over by a fault
   faulted : (status : Status) (come : Come) → IsSo come.taken come.content → status ≢ Done → Stays (Over status) come
   faulted status come so undone = (so, λ done. absurd (undone done))
 
   module _ (more : (taken bytes : List ℕ) (c : Content) → IsSo taken c → IsSo (taken ++ bytes) c) where
-    -- one deed on
-    one_comes : (returning : Returning) (before : List Happening) (deed : Deed) (plan rest : Plan) (come : Come) (old new : Now) → IsCertain old come
-        → Stays plan come → Moves deed plan rest → Goes returning before deed old new → ComesBy come (deed ∷ []) rest new
+    -- one item on
+    one_comes : (returning : Returning) (before : List Happening) (item : TraceItem) (program rest : Program) (come : Come) (old new : Now) → IsCertain old come
+        → Stays program come → StepsProgram item program rest → Goes returning before item old new → ComesBy come (item ∷ []) rest new
     one_comes returning before (Found asked) (Ask question k) rest come old new is stays moves goes =
         on_still (Found asked) rest (k moves.0) come come old new goes is refl (sym (append-nil come.taken)) (sym (append-nil come.put)) moves.3
         (stays.1 moves.0 moves.2)
@@ -280,31 +280,31 @@ module _ (IsSo : List ℕ → Content → Type 0) (IsEnd : Come → Type 0) wher
         on_still (TakeFailed bytes) rest (Over InputFault) come (takes come bytes) old new goes is refl
         (ap (λ (l : List ℕ). come.taken ++ l) (sym (append-nil bytes))) (sym (append-nil come.put)) moves.1
         (faulted InputFault (takes come bytes) (more come.taken bytes come.content stays.0) (λ same. cc))
-    one_comes returning before (HasPut bytes) (Put all plan) rest come old new is stays moves goes =
-        on_still (HasPut bytes) rest plan come (puts come all) old new goes is refl (sym (append-nil come.taken))
+    one_comes returning before (HasPut bytes) (Put all program) rest come old new is stays moves goes =
+        on_still (HasPut bytes) rest program come (puts come all) old new goes is refl (sym (append-nil come.taken))
         (ap (λ (l : List ℕ). come.put ++ l) (sym moves.0 ∙ sym (append-nil bytes))) moves.1 stays.1
-    one_comes returning before (PutFailed part) (Put all plan) rest come old new is stays moves goes =
+    one_comes returning before (PutFailed part) (Put all program) rest come old new is stays moves goes =
         on_still (PutFailed part) rest (Over OutputFault) come (puts come part) old new goes is refl (sym (append-nil come.taken))
         (ap (λ (l : List ℕ). come.put ++ l) (sym (append-nil part))) moves.1 (faulted OutputFault (puts come part) stays.0 (λ same. cc))
-    one_comes returning before Grew (Allocate plan) rest come old new is stays moves goes =
-        on_still Grew rest plan come come old new goes is refl (sym (append-nil come.taken)) (sym (append-nil come.put)) moves stays.1
-    one_comes returning before RanOut (Allocate plan) rest come old new is stays moves goes =
+    one_comes returning before Grew (Allocate program) rest come old new is stays moves goes =
+        on_still Grew rest program come come old new goes is refl (sym (append-nil come.taken)) (sym (append-nil come.put)) moves stays.1
+    one_comes returning before RanOut (Allocate program) rest come old new is stays moves goes =
         on_still RanOut rest (Over OutOfMemory) come come old new goes is refl (sym (append-nil come.taken)) (sym (append-nil come.put)) moves
         (faulted OutOfMemory come stays.0 (λ same. cc))
     one_comes returning before (Did did came) (Do action k) rest come old new is stays moves goes = absurd stays
     one_comes returning before (Stepped did came events left) (Try step k) rest come old new is stays moves goes =
-        subst (λ (plan : Plan). ComesBy come (Stepped did came events left ∷ []) plan new) (sym moves.2)
-        (subst (λ (deed : Deed). ComesBy come (deed ∷ []) (k moves.0 left) new) (sym moves.1)
+        subst (λ (program : Program). ComesBy come (Stepped did came events left ∷ []) program new) (sym moves.2)
+        (subst (λ (item : TraceItem). ComesBy come (item ∷ []) (k moves.0 left) new) (sym moves.1)
         (step_comes returning before step moves.0 events left k come old new is stays
-        (subst (λ (deed : Deed). Goes returning before deed old new) moves.1 goes)))
+        (subst (λ (item : TraceItem). Goes returning before item old new) moves.1 goes)))
     one_comes returning before (Stepped did came events left) (RebuildAll slots done k) rest come old new is stays moves goes = absurd stays
     one_comes returning before _ _ rest come old new is stays moves goes = absurd moves
 
-    -- nothing moves where the plan is over
-    over_still : (deed : Deed) (rest next : Plan) → EndsUndone rest → Moves deed rest next → ⊥
-    over_still deed rest next ends moves = no_move deed (subst (λ (plan : Plan). Moves deed plan next) ends.is moves)
+    -- nothing moves where the program is over
+    over_still : (item : TraceItem) (rest next : Program) → EndsUndone rest → StepsProgram item rest next → ⊥
+    over_still item rest next ends moves = no_move item (subst (λ (program : Program). StepsProgram item program next) ends.is moves)
       where
-        no_move : (deed : Deed) → Moves deed (Over ends.status) next → ⊥
+        no_move : (item : TraceItem) → StepsProgram item (Over ends.status) next → ⊥
         no_move (Found asked) moves = moves
         no_move (Took bytes) moves = moves
         no_move (TookLast bytes) moves = moves
@@ -316,42 +316,42 @@ module _ (IsSo : List ℕ → Content → Type 0) (IsEnd : Come → Type 0) wher
         no_move (Did action outcome) moves = moves
         no_move (Stepped step answer events left) moves = moves
 
-    -- along the story
-    pub story_comes : (returning : Returning) (before : List Happening) (story : List Deed) (plan rest : Plan) (come : Come) (old new : Now)
-        → IsCertain old come → Stays plan come → Leads Moves story plan rest → Runs returning before story old new → ComesBy come story rest new
-    story_comes returning before [] plan rest come old new is stays follows runs = record {
+    -- along the trace
+    pub trace_comes : (returning : Returning) (before : List Happening) (trace : List TraceItem) (program rest : Program) (come : Come) (old new : Now)
+        → IsCertain old come → Stays program come → AlongTrace StepsProgram trace program rest → Runs returning before trace old new → ComesBy come trace rest new
+    trace_comes returning before [] program rest come old new is stays follows runs = record {
       last = come;
       taken = sym (append-nil come.taken);
       put = sym (append-nil come.put);
-      comes = still rest old new come runs is (subst (λ (p : Plan). Stays p come) (sym follows) stays);
+      comes = still rest old new come runs is (subst (λ (p : Program). Stays p come) (sym follows) stays);
     }
-    story_comes returning before (deed ∷ story) plan rest come old new is stays follows runs =
-        let one = one_comes returning before deed plan follows.0 come old runs.0 is stays follows.1 runs.1 in
-        by one (λ certain on. story_comes returning before story follows.0 rest one.last runs.0 new certain on follows.2 runs.2) (runs.0.stopped) refl
+    trace_comes returning before (item ∷ trace) program rest come old new is stays follows runs =
+        let one = one_comes returning before item program follows.0 come old runs.0 is stays follows.1 runs.1 in
+        by one (λ certain on. trace_comes returning before trace follows.0 rest one.last runs.0 new certain on follows.2 runs.2) (runs.0.stopped) refl
       where
-        by : (one : ComesBy come (deed ∷ []) follows.0 runs.0)
-            → (IsCertain runs.0 one.last → Stays follows.0 one.last → ComesBy one.last story rest new)
-            → (stopped : Option Refusal) → runs.0.stopped ≡ stopped → ComesBy come (deed ∷ story) rest new
+        by : (one : ComesBy come (item ∷ []) follows.0 runs.0)
+            → (IsCertain runs.0 one.last → Stays follows.0 one.last → ComesBy one.last trace rest new)
+            → (stopped : Option Refusal) → runs.0.stopped ≡ stopped → ComesBy come (item ∷ trace) rest new
         by one on None unstopped =
             let goes = one.comes.goes unstopped in
             let later = on goes.0 goes.1 in
             record {
               last = later.last;
-              taken = later.taken ∙ ap (λ (l : List ℕ). l ++ taken_in story) one.taken ∙ taken_more come.taken deed story;
-              put = later.put ∙ ap (λ (l : List ℕ). l ++ put_in story) one.put ∙ put_more come.put deed story;
+              taken = later.taken ∙ ap (λ (l : List ℕ). l ++ taken_in trace) one.taken ∙ taken_more come.taken item trace;
+              put = later.put ∙ ap (λ (l : List ℕ). l ++ put_in trace) one.put ∙ put_more come.put item trace;
               comes = later.comes;
             }
-        by one on (Some refusal) stopped = ended story (one.comes.over refusal stopped) follows.2 runs.2
+        by one on (Some refusal) stopped = ended trace (one.comes.over refusal stopped) follows.2 runs.2
           where
-            ended : (later : List Deed) → EndsUndone follows.0 → Leads Moves later follows.0 rest → Runs returning before later runs.0 new
-                → ComesBy come (deed ∷ later) rest new
+            ended : (later : List TraceItem) → EndsUndone follows.0 → AlongTrace StepsProgram later follows.0 rest → Runs returning before later runs.0 new
+                → ComesBy come (item ∷ later) rest new
             ended [] ends none same =
-                subst (λ (n : Now). ComesBy come (deed ∷ []) rest n) (sym same)
-                (subst (λ (p : Plan). ComesBy come (deed ∷ []) p runs.0) (sym none) one)
+                subst (λ (n : Now). ComesBy come (item ∷ []) rest n) (sym same)
+                (subst (λ (p : Program). ComesBy come (item ∷ []) p runs.0) (sym none) one)
             ended (next ∷ later) ends moves goes = absurd (over_still next follows.0 moves.0 ends moves.1)
 
     -- where a crash cuts the step that comes next
-    pub cut_so : (rest : Plan) (new : Now) (last : Come) (step : Step) (begun : Seats) (left : State) → Comes rest new last → IsNext rest step
+    pub cut_so : (rest : Program) (new : Now) (last : Come) (step : Step) (begun : Seats) (left : State) → Comes rest new last → IsNext rest step
         → new.stopped ≡ None → CutWithin step begun new.state left → IsSo last.taken left.content × IsSo last.taken (new_content left)
     cut_so rest new last step begun left comes next unstopped cut =
         let goes = comes.goes unstopped in within rest step next goes.1 cut
@@ -365,7 +365,7 @@ module _ (IsSo : List ℕ → Content → Type 0) (IsEnd : Come → Type 0) wher
             subst (λ (s : State). IsSo last.taken s.content × IsSo last.taken (new_content s)) (sym same) (comes.so, comes.so_maybe)
         by step so made (inr row) = came_so (change_of step) last new.state left is.content is.certain (came_row step row.0 begun new.state left row.1) so made
 
-        tried : (step this : Step) (k : Answer this → Bool → Plan) → step ≡ this → Stays (Try this k) last → CutWithin step begun new.state left
+        tried : (step this : Step) (k : Answer this → Bool → Program) → step ≡ this → Stays (Try this k) last → CutWithin step begun new.state left
             → IsSo last.taken left.content × IsSo last.taken (new_content left)
         tried step (ReadBlock b) k same stays cut =
             by (ReadBlock b) stays.0 stays.0 (subst (λ (s : Step). CutWithin s begun new.state left) same cut)
@@ -374,7 +374,7 @@ module _ (IsSo : List ℕ → Content → Type 0) (IsEnd : Come → Type 0) wher
             (subst (λ (s : Step). CutWithin s begun new.state left) same cut)
         tried step this k same stays cut = absurd stays
 
-        within : (rest : Plan) (step : Step) → IsNext rest step → Stays rest last → CutWithin step begun new.state left
+        within : (rest : Program) (step : Step) → IsNext rest step → Stays rest last → CutWithin step begun new.state left
             → IsSo last.taken left.content × IsSo last.taken (new_content left)
         within (Try this k) step next stays cut = tried step this k next stays cut
         within (RebuildAll slots done k) step next stays cut = absurd stays

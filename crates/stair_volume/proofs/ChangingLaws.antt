@@ -6,11 +6,11 @@ use Rattle.std.specs.Result.{IsErrAnd}
 use Rattle.stair_model.specs.Geometry.{Geometry, block_count}
 use Rattle.stair_conf.specs.declared.job.VolumeJob.TheVariants as volume
 use Rattle.stair_array.specs.declared.fault.ArrayFault.{ArrayFault}
-use Rattle.stair_story.specs.Comes.{ComesTo}
-use Rattle.stair_story.specs.Devices.{DeviceView, Devices}
-use Rattle.stair_story.specs.Plan.{Plan, Over, Put}
+use Rattle.stair_command.specs.Comes.{ExecutesOnDevices}
+use Rattle.stair_command.specs.Devices.{DeviceView, Devices}
+use Rattle.stair_command.specs.Program.{Program, Over, Put}
 use Rattle.stair_status.specs.declared.status.Status.TheVariants.{Done}
-use Rattle.stair_story.proofs.ComesLaws.{comes_none, comes_then}
+use Rattle.stair_command.proofs.ComesLaws.{comes_none, comes_then}
 use Rattle.stair_volume.specs.declared.extent.Extent.{Extent}
 use Rattle.stair_volume.specs.declared.fault.VolumeFault.{VolumeFault}
 use Rattle.stair_volume.specs.declared.table_fault.TableFault.{TableFault}
@@ -54,36 +54,36 @@ made_within table grown name blocks size extent made rules found of =
 
 module _ {R W : Type 0} (view : DeviceView R W) {x y : Devices R W} where
   -- a fault ends a command
-  pub comes_failed : {plan : Plan} (slots : ℕ) (result : Result (List ℕ) VolumeFault) (why : VolumeFault) → IsErrAnd result (λ f. f ≡ why)
-      → ComesTo view plan (Over (status_of_volume slots why)) x y → ComesTo view plan (after_line slots result) x y
-  comes_failed {plan} slots result why is comes = subst (λ (rest : Plan). ComesTo view plan rest x y) (line_fails slots result why is) comes
+  pub comes_failed : {program : Program} (slots : ℕ) (result : Result (List ℕ) VolumeFault) (why : VolumeFault) → IsErrAnd result (λ f. f ≡ why)
+      → ExecutesOnDevices view program (Over (status_of_volume slots why)) x y → ExecutesOnDevices view program (after_line slots result) x y
+  comes_failed {program} slots result why is comes = subst (λ (rest : Program). ExecutesOnDevices view program rest x y) (line_fails slots result why is) comes
 
-  pub comes_from : {plan other rest : Plan} → plan ≡ other → ComesTo view plan rest x y → ComesTo view other rest x y
-  comes_from {plan} {other} {rest} same comes = subst (λ (p : Plan). ComesTo view p rest x y) same comes
+  pub comes_from : {program other rest : Program} → program ≡ other → ExecutesOnDevices view program rest x y → ExecutesOnDevices view other rest x y
+  comes_from {program} {other} {rest} same comes = subst (λ (p : Program). ExecutesOnDevices view p rest x y) same comes
 
   -- a line is put out after it
-  pub comes_line : {plan : Plan} (slots : ℕ) (line other : List ℕ) → line ≡ other → ComesTo view plan (Put other (Over Done)) x y
-      → ComesTo view plan (after_line slots (Ok line)) x y
-  comes_line {plan} slots line other same comes = subst (λ (l : List ℕ). ComesTo view plan (Put l (Over Done)) x y) (sym same) comes
+  pub comes_line : {program : Program} (slots : ℕ) (line other : List ℕ) → line ≡ other → ExecutesOnDevices view program (Put other (Over Done)) x y
+      → ExecutesOnDevices view program (after_line slots (Ok line)) x y
+  comes_line {program} slots line other same comes = subst (λ (l : List ℕ). ExecutesOnDevices view program (Put l (Over Done)) x y) (sym same) comes
 
 -- a command that does nothing to devices
-pub comes_still : {R W : Type 0} (view : DeviceView R W) (x : Devices R W) {plan : Plan} (slots : ℕ) (result : Result (List ℕ) VolumeFault) (why : VolumeFault)
-    → plan ≡ Over (status_of_volume slots why) → IsErrAnd result (λ f. f ≡ why) → ComesTo view plan (after_line slots result) x x
-comes_still view x {plan} slots result why over is =
-    subst (λ (rest : Plan). ComesTo view plan rest x x) (over ∙ line_fails slots result why is) (comes_none view plan x)
+pub comes_still : {R W : Type 0} (view : DeviceView R W) (x : Devices R W) {program : Program} (slots : ℕ) (result : Result (List ℕ) VolumeFault) (why : VolumeFault)
+    → program ≡ Over (status_of_volume slots why) → IsErrAnd result (λ f. f ≡ why) → ExecutesOnDevices view program (after_line slots result) x x
+comes_still view x {program} slots result why over is =
+    subst (λ (rest : Program). ExecutesOnDevices view program rest x x) (over ∙ line_fails slots result why is) (comes_none view program x)
 
 -- the table is set, of an array whose geometry is this one
-pub set_at : {R W : Type 0} (view : DeviceView R W) {x y : Devices R W} (g h : Geometry) (table : Table) (result : Result (Unit {0}) ArrayFault) (rest : Plan)
-    → h ≡ g → ((then : Plan) → ComesTo view (sets_table h table then) (after_steps h.n result then) x y)
-    → ComesTo view (sets_table g table rest) (after_steps g.n result rest) x y
+pub set_at : {R W : Type 0} (view : DeviceView R W) {x y : Devices R W} (g h : Geometry) (table : Table) (result : Result (Unit {0}) ArrayFault) (rest : Program)
+    → h ≡ g → ((then : Program) → ExecutesOnDevices view (sets_table h table then) (after_steps h.n result then) x y)
+    → ExecutesOnDevices view (sets_table g table rest) (after_steps g.n result rest) x y
 set_at view {x} {y} g h table result rest same sets =
-    subst (λ (of : Geometry). ComesTo view (sets_table of table rest) (after_steps of.n result rest) x y) same (sets rest)
+    subst (λ (of : Geometry). ExecutesOnDevices view (sets_table of table rest) (after_steps of.n result rest) x y) same (sets rest)
 
 -- ---- no volumes
 
-pub ready_plan : (g h : Geometry) (empty : Table) (count : ℕ) → empty ≡ table_with count [] → count ≡ block_count h → h ≡ g
+pub ready_program : (g h : Geometry) (empty : Table) (count : ℕ) → empty ≡ table_with count [] → count ≡ block_count h → h ≡ g
     → sets_table g empty (Put ready_line (Over Done)) ≡ on_table g volume.Ready None
-ready_plan g h empty count none all same =
+ready_program g h empty count none all same =
     ap (λ (t : Table). sets_table g t (Put ready_line (Over Done)))
     (none ∙ ap (λ (n : ℕ). table_with n []) (all ∙ ap block_count same))
 
@@ -98,32 +98,32 @@ made_none g table grown name blocks made why none is =
 
 module _ {R W : Type 0} (view : DeviceView R W) (g : Geometry) (table grown : Table) (name : List ℕ) (blocks : ℕ) (made : with_volume table name blocks ≡ Ok grown)
     (extent : Extent) (found : find_in grown.entries name ≡ Some extent) where
-  abbrev pub put_made : Plan
+  abbrev pub put_made : Program
   put_made = Put (made_line name extent) (Over Done)
 
-  made_plan : makes g name (with_volume table name blocks) ≡ clears g extent.blocks extent.first extent.blocks (sets_table g grown put_made)
-  made_plan =
+  made_program : makes g name (with_volume table name blocks) ≡ clears g extent.blocks extent.first extent.blocks (sets_table g grown put_made)
+  made_program =
       ap (makes g name) made ∙ ap (λ (e : Option Extent). if_found e (λ of. clears g of.blocks of.first of.blocks
       (sets_table g grown (Put (made_line name of) (Over Done))))) found
 
   -- its blocks are cleared, or not
   pub made_clear : {x y : Devices R W} (result : Result (Unit {0}) ArrayFault)
-      → ((rest : Plan) → ComesTo view (clears g extent.blocks extent.first extent.blocks rest) (after_steps g.n result rest) x y)
-      → ComesTo view (makes g name (with_volume table name blocks)) (after_steps g.n result (sets_table g grown put_made)) x y
-  made_clear result clear = comes_from view (sym made_plan) (clear (sets_table g grown put_made))
+      → ((rest : Program) → ExecutesOnDevices view (clears g extent.blocks extent.first extent.blocks rest) (after_steps g.n result rest) x y)
+      → ExecutesOnDevices view (makes g name (with_volume table name blocks)) (after_steps g.n result (sets_table g grown put_made)) x y
+  made_clear result clear = comes_from view (sym made_program) (clear (sets_table g grown put_made))
 
   -- and then the table is set, or not
   pub made_set : {x y z : Devices R W} (h : Geometry) (result : Result (Unit {0}) ArrayFault)
-      → ((rest : Plan) → ComesTo view (clears g extent.blocks extent.first extent.blocks rest) rest x y) → h ≡ g
-      → ((rest : Plan) → ComesTo view (sets_table h grown rest) (after_steps h.n result rest) y z)
-      → ComesTo view (makes g name (with_volume table name blocks)) (after_steps g.n result put_made) x z
+      → ((rest : Program) → ExecutesOnDevices view (clears g extent.blocks extent.first extent.blocks rest) rest x y) → h ≡ g
+      → ((rest : Program) → ExecutesOnDevices view (sets_table h grown rest) (after_steps h.n result rest) y z)
+      → ExecutesOnDevices view (makes g name (with_volume table name blocks)) (after_steps g.n result put_made) x z
   made_set h result clear same sets = comes_then view (made_clear (Ok tt) clear) (set_at view g h grown result put_made same sets)
 
 -- ---- a volume less
 
 pub removed_set : {R W : Type 0} (view : DeviceView R W) {x y : Devices R W} (g : Geometry) (table shrunk : Table) (name : List ℕ)
     (result : Result (Unit {0}) ArrayFault) → without_volume table name ≡ Ok shrunk
-    → ((rest : Plan) → ComesTo view (sets_table g shrunk rest) (after_steps g.n result rest) x y)
-    → ComesTo view (removes g name (without_volume table name)) (after_steps g.n result (Put (dropped_line name) (Over Done))) x y
+    → ((rest : Program) → ExecutesOnDevices view (sets_table g shrunk rest) (after_steps g.n result rest) x y)
+    → ExecutesOnDevices view (removes g name (without_volume table name)) (after_steps g.n result (Put (dropped_line name) (Over Done))) x y
 removed_set view g table shrunk name result removed sets =
     comes_from view (sym (ap (removes g name) removed)) (sets (Put (dropped_line name) (Over Done)))

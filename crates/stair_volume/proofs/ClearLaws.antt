@@ -10,13 +10,13 @@ use Rattle.stair_state.specs.Blocks.{zero_block}
 use Rattle.stair_array.specs.Arrays.{blocks_of, outcome}
 use Rattle.stair_array.specs.Machine.{WriteBlocks}
 use Rattle.stair_array.specs.declared.fault.ArrayFault.{ArrayFault}
-use Rattle.stair_story.specs.Comes.{ComesTo}
-use Rattle.stair_story.specs.Devices.{DeviceView, Devices}
-use Rattle.stair_story.specs.Pieces.{piece_blocks}
-use Rattle.stair_story.specs.Plan.{Plan, if_so, take_step}
-use Rattle.stair_story.specs.Steps.{Takes}
-use Rattle.stair_story.proofs.ComesLaws.{comes_none, comes_then}
-use Rattle.stair_story.proofs.PieceLaws.{piece_left, piece_some}
+use Rattle.stair_command.specs.Comes.{ExecutesOnDevices}
+use Rattle.stair_command.specs.Devices.{DeviceView, Devices}
+use Rattle.stair_command.specs.Pieces.{piece_blocks}
+use Rattle.stair_command.specs.Program.{Program, if_so, take_step}
+use Rattle.stair_command.specs.Steps.{Takes}
+use Rattle.stair_command.proofs.ComesLaws.{comes_none, comes_then}
+use Rattle.stair_command.proofs.PieceLaws.{piece_left, piece_some}
 use Rattle.stair_watch.specs.WatcherList.{AllStay}
 use Rattle.stair_volume.specs.Commands.{clears}
 use Rattle.stair_volume.specs.Parts.{after_steps}
@@ -39,7 +39,7 @@ zeros_are_blocks count cells zeros piece all few is =
     let many : length piece / SECTOR ≡ count = omega (arith, ap length these ∙ length-replicate (SECTOR * count) 0) in
     ap₂ (λ (n : ℕ) (bytes : List ℕ). first_chunks SECTOR n bytes) many these ∙ zero_chunks count (SECTOR * count) (omega arith)
 
--- ---- the plan
+-- ---- the program
 
 -- how many blocks the next piece has
 pub piece_is : (g h : Geometry) (block end start piece : ℕ) → piece ≡ piece_blocks h block (end - block) → h ≡ g → end ≡ start
@@ -51,7 +51,7 @@ pub piece_inside : (g : Geometry) (block end piece : ℕ) → block < end → en
 piece_inside g block end piece below within is = omega (arith, is, below, piece_left g block (end - block) (omega (arith, below)) (omega (arith, within, below)))
 
 -- one turn more
-clears_next : (g : Geometry) (turns first left : ℕ) (rest : Plan) → 0 < left
+clears_next : (g : Geometry) (turns first left : ℕ) (rest : Program) → 0 < left
     → clears g (suc turns) first left rest
     ≡ take_step g.n (WriteBlocks first (replicate (piece_blocks g first left) zero_block))
     (λ ok. clears g turns (first + piece_blocks g first left) (left - piece_blocks g first left) rest)
@@ -61,7 +61,7 @@ clears_next g turns first left rest some =
     (ne_eqb left 0 (λ none. omega (arith, some, none)))
 
 -- none is left
-clears_done : (g : Geometry) (turns first left : ℕ) (rest : Plan) → left ≡ 0 → clears g turns first left rest ≡ rest
+clears_done : (g : Geometry) (turns first left : ℕ) (rest : Program) → left ≡ 0 → clears g turns first left rest ≡ rest
 clears_done g zero first left rest none = refl
 clears_done g (suc turns) first left rest none =
     ap (λ (is : Bool). if_so is rest (take_step g.n (WriteBlocks first (replicate (piece_blocks g first left) zero_block))
@@ -79,7 +79,7 @@ module _ {R W : Type 0} (view : DeviceView R W) (g : Geometry) (first count : �
     pub stay : AllStay view.watcher y.watchers
     pub turns : ℕ
     pub enough : first + count ≤ block + turns
-    pub comes : (rest : Plan) → ComesTo view (clears g count first count rest) (clears g turns block (first + count - block) rest) x y
+    pub comes : (rest : Program) → ExecutesOnDevices view (clears g count first count rest) (clears g turns block (first + count - block) rest) x y
 
   -- none is yet
   pub none_cleared : HasGeometry g x.session → AllStay view.watcher x.watchers → ClearedSoFar first x
@@ -92,7 +92,7 @@ module _ {R W : Type 0} (view : DeviceView R W) (g : Geometry) (first count : �
     enough = omega arith;
     comes = λ rest.
         let left : count ≡ first + count - first = omega arith in
-        subst (λ (n : ℕ). ComesTo view (clears g count first count rest) (clears g count first n rest) x x) left
+        subst (λ (n : ℕ). ExecutesOnDevices view (clears g count first count rest) (clears g count first n rest) x x) left
         (comes_none view (clears g count first count rest) x);
   }
 
@@ -116,16 +116,16 @@ module _ {R W : Type 0} (view : DeviceView R W) (g : Geometry) (first count : �
     clear_geometry = geometry_stays view (WriteBlocks block (blocks_of bytes)) (outcome result) takes opened g so_far.geometry
 
     -- the piece was written, or not
-    pub piece_comes : (rest : Plan)
-        → ComesTo view (clears g count first count rest) (after_steps g.n result (clears g less (block + piece) (left - piece) rest)) x z
+    pub piece_comes : (rest : Program)
+        → ExecutesOnDevices view (clears g count first count rest) (after_steps g.n result (clears g less (block + piece) (left - piece) rest)) x z
     piece_comes rest =
         comes_then view
-        (subst (λ (plan : Plan). ComesTo view (clears g count first count rest) plan x y)
+        (subst (λ (program : Program). ExecutesOnDevices view (clears g count first count rest) program x y)
         (ap (λ (turns : ℕ). clears g turns block left rest) (fuel block so_far.turns below so_far.enough).1
         ∙ clears_next g less block left rest (omega (arith, below))
         ∙ ap (λ (n : ℕ). take_step g.n (WriteBlocks block (replicate n zero_block)) (λ ok. clears g less (block + n) (left - n) rest)) (sym is))
         (so_far.comes rest))
-        (subst (λ (written : List (List ℕ)). ComesTo view (take_step g.n (WriteBlocks block written) (λ ok. clears g less (block + piece) (left - piece) rest))
+        (subst (λ (written : List (List ℕ)). ExecutesOnDevices view (take_step g.n (WriteBlocks block written) (λ ok. clears g less (block + piece) (left - piece) rest))
         (after_steps g.n result (clears g less (block + piece) (left - piece) rest)) y z)
         (zeros_are_blocks piece (data_cells g) zeros bytes all (omega (arith, is)) taken)
         (comes_write view g.n block (blocks_of bytes) result (clears g less (block + piece) (left - piece) rest) takes))
@@ -144,15 +144,15 @@ module _ {R W : Type 0} (view : DeviceView R W) (g : Geometry) (first count : �
           turns = less;
           enough = omega (arith, so_far.enough, (fuel block so_far.turns below so_far.enough).1, some, goes);
           comes = λ rest.
-              subst (λ (plan : Plan). ComesTo view (clears g count first count rest) plan x z)
+              subst (λ (program : Program). ExecutesOnDevices view (clears g count first count rest) program x z)
               (ap (λ (r : Result (Unit {0}) ArrayFault). after_steps g.n r (clears g less (block + piece) (left - piece) rest)) done
               ∙ ap₂ (λ (b n : ℕ). clears g less b n rest) (sym goes) later)
               (piece_comes rest);
         }
 
   -- all are
-  pub all_cleared : {block : ℕ} {y : Devices R W} → ClearedSoFar block y → first + count ≤ block → (rest : Plan)
-      → ComesTo view (clears g count first count rest) rest x y
+  pub all_cleared : {block : ℕ} {y : Devices R W} → ClearedSoFar block y → first + count ≤ block → (rest : Program)
+      → ExecutesOnDevices view (clears g count first count rest) rest x y
   all_cleared {block} {y} so_far past rest =
-      subst (λ (plan : Plan). ComesTo view (clears g count first count rest) plan x y)
+      subst (λ (program : Program). ExecutesOnDevices view (clears g count first count rest) program x y)
       (clears_done g so_far.turns block (first + count - block) rest (omega (arith, past))) (so_far.comes rest)

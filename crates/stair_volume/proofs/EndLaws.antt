@@ -1,4 +1,4 @@
--- How the plan of each command ends where its array serves.
+-- How the program of each command ends where its array serves.
 use Rattle.std.proofs.Common.{◌≡◌, ◌∙◌, ◌+◌, ◌-◌, ◌/◌, ◌<◌, ◌≤◌, ◌++◌, cond, ℕ, zero, suc, Bool, true, false, List, [], ◌∷◌, inl, inr, length, replicate, Option, None, Some, Ok, Err, Result, refl, sym, ap, subst, arith}
 use Rattle.std.specs.Prelude.{Contains, is_some, nat_le, nat_lt}
 use Rattle.std.proofs.lemmas.Bool.{cases_Bool, false≢true, leb-true, ltb-true, ne_eqb}
@@ -12,21 +12,21 @@ use Rattle.stair_array.specs.Arrays.{blocks_of}
 use Rattle.stair_array.specs.Machine.{Frozen as Freezes, ReadBlock, Refusal, WriteBlocks}
 use Rattle.stair_conf.specs.declared.job.VolumeJob.{VolumeJob}
 use Rattle.stair_conf.specs.declared.job.VolumeJob.TheVariants as volume
-use Rattle.stair_story.specs.Pieces.{part_of, piece_blocks, whole_of}
-use Rattle.stair_story.specs.Plan.{Plan, Over, Put, if_so, take_step}
-use Rattle.stair_story.specs.Refused.{status_of_refusal}
-use Rattle.stair_story.specs.Served.{EndsServed}
-use Rattle.stair_story.specs.Transfers.{if_within, is_within, reads, writes, wrote}
+use Rattle.stair_command.specs.Pieces.{part_of, piece_blocks, whole_of}
+use Rattle.stair_command.specs.Program.{Program, Over, Put, if_so, take_step}
+use Rattle.stair_command.specs.Refused.{status_of_refusal}
+use Rattle.stair_command.specs.Served.{EndsServed}
+use Rattle.stair_command.specs.Transfers.{if_within, is_within, reads, writes, wrote}
 use Rattle.stair_status.specs.declared.status.Status.{Status}
 use Rattle.stair_status.specs.declared.status.Status.TheVariants.{Done, Frozen}
-use Rattle.stair_story.proofs.PieceLaws.{piece_left, piece_some, some_blocks}
-use Rattle.stair_story.proofs.WriteLaws.{turn}
+use Rattle.stair_command.proofs.PieceLaws.{piece_left, piece_some, some_blocks}
+use Rattle.stair_command.proofs.WriteLaws.{turn}
 use Rattle.stair_volume.specs.declared.extent.Entry.{Entry}
 use Rattle.stair_volume.specs.declared.extent.Extent.{Extent}
 use Rattle.stair_volume.specs.declared.table_fault.TableFault.{TableFault}
 use Rattle.stair_volume.specs.declared.table_fault.TableFault.TheVariants as table
 use Rattle.stair_volume.specs.Changes.{placed, room, volume_of, with_volume, without_entry, without_volume}
-use Rattle.stair_volume.specs.Commands.{clears, dropped_line, if_found, lists, made_line, makes, on_table, ready_line, removes, sets_table, status_of_table, volume_plan, within_volume}
+use Rattle.stair_volume.specs.Commands.{clears, dropped_line, if_found, lists, made_line, makes, on_table, ready_line, removes, sets_table, status_of_table, volume_program, within_volume}
 use Rattle.stair_volume.specs.Ends.{MayEnd}
 use Rattle.stair_volume.specs.Page.{HasTable, table_bytes, table_of}
 use Rattle.stair_volume.specs.Table.{IsTable, Table, end_of, extent_of, find_in, table_with}
@@ -40,14 +40,14 @@ refused_not_ok refusal answer is frozen = cc
 
 module _ (IsEnd : Status → Type 0) (slots : ℕ) where
   -- a block that is there is read
-  read_ends : (b : ℕ) (k : List ℕ → Plan) (s : State) → b < block_count s.geometry
+  read_ends : (b : ℕ) (k : List ℕ → Program) (s : State) → b < block_count s.geometry
       → ((bytes : List ℕ) (later : State) → later.geometry ≡ s.geometry → EndsServed IsEnd (k bytes) later)
       → EndsServed IsEnd (take_step slots (ReadBlock b) k) s
   read_ends b k s below then (Ok bytes) left later step = then bytes later step.row.geometry
   read_ends b k s below then (Err refusal) left later step = absurd (false≢true (step.done below))
 
   -- blocks that are there are written, or the array is frozen
-  write_ends : (first : ℕ) (contents : List (List ℕ)) (k : Unit {0} → Plan) (s : State) → first < block_count s.geometry → IsEnd Frozen
+  write_ends : (first : ℕ) (contents : List (List ℕ)) (k : Unit {0} → Program) (s : State) → first < block_count s.geometry → IsEnd Frozen
       → ((later : State) → later.geometry ≡ s.geometry → EndsServed IsEnd (k tt) later)
       → EndsServed IsEnd (take_step slots (WriteBlocks first contents) k) s
   write_ends first contents k s below frozen then (Ok done) left later step = then later step.row.geometry
@@ -60,16 +60,16 @@ module _ (IsEnd : Status → Type 0) (slots : ℕ) where
       ]
 
 module _ (job : VolumeJob) (g : Geometry) where
-  abbrev Ends : Plan → State → Type 0
-  Ends plan s = EndsServed (MayEnd job) plan s
+  abbrev Ends : Program → State → Type 0
+  Ends program s = EndsServed (MayEnd job) program s
 
   -- the table is written
-  sets_end : (t : Table) (rest : Plan) (s : State) → 0 < block_count s.geometry → MayEnd job Frozen
+  sets_end : (t : Table) (rest : Program) (s : State) → 0 < block_count s.geometry → MayEnd job Frozen
       → ((later : State) → later.geometry ≡ s.geometry → Ends rest later) → Ends (sets_table g t rest) s
   sets_end t rest s some frozen then = write_ends (MayEnd job) g.n 0 (table_bytes t.entries ∷ []) (λ ok. rest) s some frozen then
 
   -- zeros are
-  clears_end : (turns at left : ℕ) (rest : Plan) (s : State) → s.geometry ≡ g → left ≤ turns → at + left ≤ block_count g → MayEnd job Frozen
+  clears_end : (turns at left : ℕ) (rest : Program) (s : State) → s.geometry ≡ g → left ≤ turns → at + left ≤ block_count g → MayEnd job Frozen
       → ((later : State) → later.geometry ≡ g → Ends rest later) → Ends (clears g turns at left rest) s
   clears_end zero at left rest s same few within frozen then = then s same
   clears_end (suc turns) at zero rest s same few within frozen then = then s same
@@ -244,8 +244,8 @@ module _ (g : Geometry) (some : 0 < block_count g) (s : State) (same : s.geometr
   table_ends (volume.Write name block count) is bytes (Some t) found =
       write_ends_by bytes t name block count (has_table_read (block_count g) bytes t found) (find_in t.entries name) refl
 
--- The plan of each command ends as it may.
-pub volume_ends : (job : VolumeJob) (g : Geometry) (s : State) → IsCommand job → IsWithinLimits g → s.geometry ≡ g → EndsServed (MayEnd job) (volume_plan job g) s
+-- The program of each command ends as it may.
+pub volume_ends : (job : VolumeJob) (g : Geometry) (s : State) → IsCommand job → IsWithinLimits g → s.geometry ≡ g → EndsServed (MayEnd job) (volume_program job g) s
 volume_ends job g s is limits same =
     let some = some_blocks g limits in
     read_ends (MayEnd job) g.n 0 (λ bytes. on_table g job (table_of (block_count g) bytes)) s (subst (λ (f : Geometry). 0 < block_count f) (sym same) some)

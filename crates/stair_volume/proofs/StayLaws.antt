@@ -1,4 +1,4 @@
--- What is so along the plan of each command: the volumes are those from before, or those after.
+-- What is so along the program of each command: the volumes are those from before, or those after.
 use Rattle.std.proofs.Common.{◌≡◌, ◌≢◌, ◌∙◌, ◌+◌, ◌-◌, ◌*◌, ◌/◌, ◌<◌, ◌≤◌, ◌++◌, ◌⊎◌, ℕ, zero, suc, Bool, true, false, List, [], ◌∷◌, append-nil, append_assoc, inl, inr, length, drop, take, replicate, Option, None, Some, Ok, Err, Result, refl, sym, ap, subst, arith}
 use Rattle.std.specs.Prelude.{All, Contains, is_some, nat_le, nat_lt}
 use Rattle.std.specs.List.{concat}
@@ -17,23 +17,23 @@ use Rattle.stair_array.specs.Machine.{AlreadyArray, EpochsSpent, Frozen, Gone, J
 use Rattle.stair_conf.specs.Name.{IsName}
 use Rattle.stair_conf.specs.declared.job.VolumeJob.{VolumeJob}
 use Rattle.stair_conf.specs.declared.job.VolumeJob.TheVariants as volume
-use Rattle.stair_story.specs.Pieces.{part_of, piece_blocks, whole_of}
-use Rattle.stair_story.specs.Plan.{Plan, Over, Put, if_so, take_step, unless_refused}
-use Rattle.stair_story.specs.Refused.{status_of_refusal}
-use Rattle.stair_story.specs.Transfers.{if_within, is_within, reads, wrote}
-use Rattle.stair_story.specs.Transfers.{writes as write_rest}
+use Rattle.stair_command.specs.Pieces.{part_of, piece_blocks, whole_of}
+use Rattle.stair_command.specs.Program.{Program, Over, Put, if_so, take_step, unless_refused}
+use Rattle.stair_command.specs.Refused.{status_of_refusal}
+use Rattle.stair_command.specs.Transfers.{if_within, is_within, reads, wrote}
+use Rattle.stair_command.specs.Transfers.{writes as write_rest}
 use Rattle.stair_status.specs.declared.status.Status.{Status}
 use Rattle.stair_status.specs.declared.status.Status.TheVariants.{Done, Input, NoVolume}
-use Rattle.stair_story.proofs.LifeLaws.{block_set, blocks_stay}
-use Rattle.stair_story.proofs.PieceLaws.{piece_left, piece_some}
-use Rattle.stair_story.proofs.TurnLaws.{blocks_count, blocks_whole, few_whole, part_short, some_whole, whole_then_part}
-use Rattle.stair_story.proofs.WriteLaws.{turn}
+use Rattle.stair_command.proofs.LifeLaws.{block_set, blocks_stay}
+use Rattle.stair_command.proofs.PieceLaws.{piece_left, piece_some}
+use Rattle.stair_command.proofs.TurnLaws.{blocks_count, blocks_whole, few_whole, part_short, some_whole, whole_then_part}
+use Rattle.stair_command.proofs.WriteLaws.{turn}
 use Rattle.stair_volume.specs.declared.extent.Entry.{Entry}
 use Rattle.stair_volume.specs.declared.extent.Extent.{Extent}
 use Rattle.stair_volume.specs.declared.table_fault.TableFault.{TableFault}
 use Rattle.stair_volume.specs.declared.table_fault.TableFault.TheVariants as table
 use Rattle.stair_volume.specs.Changes.{volume_of, with_volume, without_entry, without_volume}
-use Rattle.stair_volume.specs.Commands.{clears, dropped_line, if_found, lists, made_line, makes, on_table, ready_line, removes, sets_table, status_of_table, volume_line, volume_plan, within_volume}
+use Rattle.stair_volume.specs.Commands.{clears, dropped_line, if_found, lists, made_line, makes, on_table, ready_line, removes, sets_table, status_of_table, volume_line, volume_program, within_volume}
 use Rattle.stair_volume.specs.Page.{HasTable, table_bytes, table_of}
 use Rattle.stair_volume.specs.Table.{IsTable, Table, end_of, extent_of, find_in, table_with}
 use Rattle.stair_volume.specs.Volumes.{AreFront, HasDone, HasNone, IsCommand, KeepsVolumes, MayHold, PutsOut, Volume, blocks_from, most_written, volume_at}
@@ -64,8 +64,8 @@ table_undone table.NameTaken same = cc
 table_undone table.TableFull same = cc
 table_undone (table.NoRoom blocks) same = cc
 
--- so a step that is refused ends the plan undone
-step_undone : (slots : ℕ) (step : Step) (k : GivenBy step → Plan) (refusal : Refusal) (left : Bool)
+-- so a step that is refused ends the program undone
+step_undone : (slots : ℕ) (step : Step) (k : GivenBy step → Program) (refusal : Refusal) (left : Bool)
     → EndsUndone (unless_refused slots (λ (x : GivenBy step) (gone : Bool). k x) (Err refusal) left)
 step_undone slots step k refusal left = record { status = status_of_refusal slots refusal; undone = refused_undone slots refusal; is = refl }
 
@@ -97,7 +97,7 @@ module _ (job : VolumeJob) (g : Geometry) (held : Blocks) where
     may.3,
   )
 
-  -- the plan is over, and not all was done
+  -- the program is over, and not all was done
   over_so : (status : Status) (come : Come) → status ≢ Done → IsSo come.taken come.content → Stays IsSo EndsSo (Over status) come
   over_so status come undone so = (so, λ done. absurd (undone done))
 
@@ -135,7 +135,7 @@ module _ (job : VolumeJob) (g : Geometry) (held : Blocks) where
   -- ZEROS
 
   module _ (extent : Extent) (inside : end_of extent ≤ block_count g)
-      (kept : (now : Blocks) → IsBeside extent held now → KeepsVolumes (block_count g) held now) (rest : Plan) where
+      (kept : (now : Blocks) → IsBeside extent held now → KeepsVolumes (block_count g) held now) (rest : Program) where
     -- what is so once blocks up to this one are zeros
     record AreCleared (at : ℕ) (come : Come) : Type 0 where
       from : extent.first ≤ at
@@ -355,8 +355,8 @@ module _ (g : Geometry) (limits : IsWithinLimits g) (c : Content) where
   abbrev count : ℕ
   count = block_count g
 
-  abbrev StaysFor : VolumeJob → Plan → Type 0
-  StaysFor job plan = Stays (IsSo job g c.blocks) (EndsSo job g c.blocks) plan (opened c)
+  abbrev StaysFor : VolumeJob → Program → Type 0
+  StaysFor job program = Stays (IsSo job g c.blocks) (EndsSo job g c.blocks) program (opened c)
 
   -- no volume is touched by a refusal
   refused_so : (job : VolumeJob) (status : Status) → status ≢ Done → StaysFor job (Over status)
@@ -506,7 +506,7 @@ module _ (g : Geometry) (limits : IsWithinLimits g) (c : Content) where
       write_stays t name block all (has_table_read count (c.blocks 0) t some) (find_in t.entries name) refl
 
   -- and of all of it
-  pub volume_stays : (job : VolumeJob) → IsCommand job → StaysFor job (volume_plan job g)
+  pub volume_stays : (job : VolumeJob) → IsCommand job → StaysFor job (volume_program job g)
   volume_stays job is = (
     inl (keeps_same count c.blocks),
     λ bytes left same. table_stays job is (table_of count bytes) (ap (table_of count) (sym same)),

@@ -4,12 +4,12 @@ use Rattle.stair_model.specs.Geometry.{Geometry}
 use Rattle.stair_array.specs.Arrays.{answer_as}
 use Rattle.stair_array.specs.Machine.{ReadBlock}
 use Rattle.stair_array.specs.declared.fault.ArrayFault.{ArrayFault}
-use Rattle.stair_story.specs.Devices.{DeviceView, Devices}
-use Rattle.stair_story.specs.Outside.{Views}
-use Rattle.stair_story.specs.Plan.{Plan, Over, Put, take_step}
-use Rattle.stair_story.specs.Steps.{Takes}
-use Rattle.stair_story.specs.Talks.{PutsTo}
-use Rattle.stair_story.specs.Transfers.{reads}
+use Rattle.stair_command.specs.Devices.{DeviceView, Devices}
+use Rattle.stair_command.specs.Outside.{Views}
+use Rattle.stair_command.specs.Program.{Program, Over, Put, take_step}
+use Rattle.stair_command.specs.Steps.{Takes}
+use Rattle.stair_command.specs.Talks.{PutsTo}
+use Rattle.stair_command.specs.Transfers.{reads}
 use Rattle.stair_status.specs.declared.status.Status.TheVariants.{Done}
 use Rattle.stair_watch.specs.WatcherList.{AllStay}
 use Rattle.stair_volume.specs.Parts.{after_steps}
@@ -19,7 +19,7 @@ use Rattle.stair_volume.proofs.StepLaws.{HasGeometry, IsOpen, comes_read, geomet
 -- ---- blocks are put out
 
 -- after the bytes of a block
-abbrev pub read_on : Geometry → (first count : ℕ) → List ℕ → Plan
+abbrev pub read_on : Geometry → (first count : ℕ) → List ℕ → Program
 read_on g first count bytes = Put bytes (reads g first count)
 
 -- one block more
@@ -66,8 +66,8 @@ module _ {R W S K : Type 0} {view : DeviceView R W} {streams : Views S K} {g : G
         (did_so view streams (reads g first all) from empty start from sink x (reads_next g first all done below) so_far.did)
         (comes_read view g.n (first + done) bytes result (read_on g (first + (done + 1)) (all - (done + 1))) takes)
 
-    module _ {ok : Unit {0}} (read : result ≡ Ok ok) {l : K} (rest : Plan → Plan)
-        (puts : (later : Plan) → PutsTo streams.sink (Put bytes later) (rest later) sink l) where
+    module _ {ok : Unit {0}} (read : result ≡ Ok ok) {l : K} (rest : Program → Program)
+        (puts : (later : Program) → PutsTo streams.sink (Put bytes later) (rest later) sink l) where
       -- and put out, or not
       pub next_put : Did view streams (reads g first all) from empty start (rest (reads g (first + (done + 1)) (all - (done + 1)))) from l y
       next_put =
@@ -76,7 +76,7 @@ module _ {R W S K : Type 0} {view : DeviceView R W} {streams : Views S K} {g : G
           (ap (λ (r : Result (Unit {0}) ArrayFault). after_steps g.n r (read_on g (first + (done + 1)) (all - (done + 1)) bytes)) read) next_read)
           (puts (reads g (first + (done + 1)) (all - (done + 1))))
 
-    pub one_put : {ok : Unit {0}} → result ≡ Ok ok → {l : K} → ((later : Plan) → PutsTo streams.sink (Put bytes later) later sink l)
+    pub one_put : {ok : Unit {0}} → result ≡ Ok ok → {l : K} → ((later : Program) → PutsTo streams.sink (Put bytes later) later sink l)
         → IsOpen y.session → AllStay view.watcher y.watchers → PutSoFar view streams g first all from empty start (done + 1) l y
     one_put read puts opened stay = record {
       geometry = geometry_stays view (ReadBlock (first + done)) (answer_as bytes result) takes opened g so_far.geometry;

@@ -11,24 +11,24 @@ use Rattle.stair_conf.specs.declared.job.VolumeJob.{VolumeJob}
 use Rattle.stair_conf.specs.declared.job.VolumeJob.TheVariants as volume
 use Rattle.stair_array.specs.Machine as array
 use Rattle.stair_array.specs.declared.fault.ArrayFault.TheVariants as refused
-use Rattle.stair_story.specs.Comes.{ComesTo}
-use Rattle.stair_story.specs.Devices.{DeviceView, Devices, MeansWith}
-use Rattle.stair_story.specs.Ending.{TakesNothing}
-use Rattle.stair_story.specs.Outside.{SinkView, SourceView, Views, no_source, outside}
-use Rattle.stair_story.specs.Plan.{Plan, Over, Put, unless_refused}
-use Rattle.stair_story.specs.Refused.{status_of_refusal}
-use Rattle.stair_story.specs.Steps.{Takes}
-use Rattle.stair_story.specs.Talks.{PutsTo}
-use Rattle.stair_story.specs.Transfers.{if_within, reads}
+use Rattle.stair_command.specs.Comes.{ExecutesOnDevices}
+use Rattle.stair_command.specs.Devices.{DeviceView, Devices, ExecutesWith}
+use Rattle.stair_command.specs.Ending.{TakesNothing}
+use Rattle.stair_command.specs.Outside.{SinkView, SourceView, Views, no_source, outside}
+use Rattle.stair_command.specs.Program.{Program, Over, Put, unless_refused}
+use Rattle.stair_command.specs.Refused.{status_of_refusal}
+use Rattle.stair_command.specs.Steps.{Takes}
+use Rattle.stair_command.specs.Talks.{PutsTo}
+use Rattle.stair_command.specs.Transfers.{if_within, reads}
 use Rattle.stair_status.specs.declared.status.Status.TheVariants.{Done, InputFault, NoTable, OutOfRange}
-use Rattle.stair_story.proofs.DeviceLaws.{with_source, with_then}
+use Rattle.stair_command.proofs.DeviceLaws.{with_source, with_then}
 use Rattle.stair_volume.specs.declared.extent.Entry.{Entry}
 use Rattle.stair_volume.specs.declared.extent.Extent.{Extent}
 use Rattle.stair_volume.specs.declared.fault.VolumeFault.{VolumeFault}
 use Rattle.stair_volume.specs.declared.fault.VolumeFault.TheVariants as fault
 use Rattle.stair_volume.specs.declared.table_fault.TableFault.TheVariants.{NoVolume}
 use Rattle.stair_volume.specs.Changes.{volume_of}
-use Rattle.stair_volume.specs.Commands.{if_found, on_table, status_of, status_of_volume, volume_plan, within_volume}
+use Rattle.stair_volume.specs.Commands.{if_found, on_table, status_of, status_of_volume, volume_program, within_volume}
 use Rattle.stair_volume.specs.Page.{table_of}
 use Rattle.stair_volume.specs.Parts.{IsFirstBlock, IsNoRange, after_done, after_steps}
 use Rattle.stair_volume.specs.Table.{IsTable, IsVolume, Table, find_in}
@@ -39,7 +39,7 @@ use Rattle.stair_volume.proofs.StepLaws.{comes_read}
 -- ---- ranges
 
 -- what is done in a range of a volume
-abbrev pub in_range : List Entry → (name : List ℕ) → (block count : ℕ) → (ℕ → ℕ → Plan) → Plan
+abbrev pub in_range : List Entry → (name : List ℕ) → (block count : ℕ) → (ℕ → ℕ → Program) → Program
 in_range entries name block count k =
     if_found (find_in entries name) (λ extent. within_volume extent block count (k (extent.first + block) count))
 
@@ -62,7 +62,7 @@ range_small first zero fits below = (omega (arith, below), omega arith)
 range_small first (suc count) fits below = let few = fits (omega arith) in (omega (arith, few), omega (arith, few))
 
 -- it hasn't this one
-pub range_past : (slots : ℕ) (entries : List Entry) (name : List ℕ) (block count : ℕ) (k : ℕ → ℕ → Plan) (why : VolumeFault)
+pub range_past : (slots : ℕ) (entries : List Entry) (name : List ℕ) (block count : ℕ) (k : ℕ → ℕ → Program) (why : VolumeFault)
     → IsNoRange entries name block count why → in_range entries name block count k ≡ Over (status_of_volume slots why)
 range_past slots entries name block count k (fault.Table NoVolume) none =
     ap (λ (found : Option Extent). if_found found (λ extent. within_volume extent block count (k (extent.first + block) count))) none
@@ -73,7 +73,7 @@ range_past slots entries name block count k (fault.Array (refused.OutOfRange ask
 range_past slots entries name block count k _ past = absurd past
 
 -- it has, or nothing is done
-pub range_inside : (entries : List Entry) (name : List ℕ) (block count first : ℕ) (k : ℕ → ℕ → Plan) → ((a b : ℕ) → k a 0 ≡ k b 0)
+pub range_inside : (entries : List Entry) (name : List ℕ) (block count first : ℕ) (k : ℕ → ℕ → Program) → ((a b : ℕ) → k a 0 ≡ k b 0)
     → IsFirstBlock entries name block count first → in_range entries name block count k ≡ k first count
 range_inside entries name block zero first k none range =
     ap (λ (found : Option Extent). if_found found (λ extent. within_volume extent block 0 (k (extent.first + block) 0))) range.found
@@ -98,7 +98,7 @@ refusal_no_input slots (array.Gone slot) = λ is. cc
 refusal_no_input slots (array.SmallDevice slot has needs) = λ is. cc
 refusal_no_input slots (array.AlreadyArray slot) = λ is. cc
 
-put_untaken : (slots : ℕ) (rest : Plan) → TakesNothing rest → (answer : Result (List ℕ) Refusal) (left : Bool)
+put_untaken : (slots : ℕ) (rest : Program) → TakesNothing rest → (answer : Result (List ℕ) Refusal) (left : Bool)
     → TakesNothing (unless_refused slots (λ bytes left. Put bytes rest) answer left)
 put_untaken slots rest none (Ok bytes) left = none
 put_untaken slots rest none (Err refusal) left = refusal_no_input slots refusal
@@ -108,7 +108,7 @@ reads_untaken g first zero = λ is. cc
 reads_untaken g first (suc count) = put_untaken g.n (reads g (first + 1) count) (reads_untaken g (first + 1) count)
 
 -- so it does the same over any source
-pub did_read : {R W S K : Type 0} (view : DeviceView R W) (source : SourceView S) (sink : SinkView K) (g : Geometry) (first count : ℕ) (rest : Plan)
+pub did_read : {R W S K : Type 0} (view : DeviceView R W) (source : SourceView S) (sink : SinkView K) (g : Geometry) (first count : ℕ) (rest : Program)
     (a : S) {k l : K} {x y : Devices R W} → Did view (record { source = no_source; sink = sink }) (reads g first count) tt k x rest tt l y
     → Did view (record { source = source; sink = sink }) (reads g first count) a k x rest a l y
 did_read view source sink g first count rest a {k} {l} {x} {y} did counter =
@@ -116,38 +116,38 @@ did_read view source sink g first count rest a {k} {l} {x} {y} did counter =
 
 -- ---- commands
 
-module _ {R W S K : Type 0} (view : DeviceView R W) (streams : Views S K) {plan : Plan} {a : S} {k : K} {x : Devices R W} where
-  -- a plan that is this one
-  pub did_as : {other rest : Plan} {b : S} {l : K} {y : Devices R W} → plan ≡ other → Did view streams other a k x rest b l y
-      → Did view streams plan a k x rest b l y
-  did_as {other} {rest} {b} {l} {y} same did = subst (λ (p : Plan). Did view streams p a k x rest b l y) (sym same) did
+module _ {R W S K : Type 0} (view : DeviceView R W) (streams : Views S K) {program : Program} {a : S} {k : K} {x : Devices R W} where
+  -- a program that is this one
+  pub did_as : {other rest : Program} {b : S} {l : K} {y : Devices R W} → program ≡ other → Did view streams other a k x rest b l y
+      → Did view streams program a k x rest b l y
+  did_as {other} {rest} {b} {l} {y} same did = subst (λ (p : Program). Did view streams p a k x rest b l y) (sym same) did
 
   -- it is over
-  pub did_over : (rest : Plan) → plan ≡ rest → Did view streams plan a k x rest a k x
-  did_over rest over = did_so view streams plan a k x a k x over (did_none view streams plan a k x)
+  pub did_over : (rest : Program) → program ≡ rest → Did view streams program a k x rest a k x
+  did_over rest over = did_so view streams program a k x a k x over (did_none view streams program a k x)
 
   pub did_over_by : (slots : ℕ) (result : Result (Unit {0}) VolumeFault) (why : VolumeFault) → IsErrAnd result (λ f. f ≡ why)
-      → plan ≡ Over (status_of_volume slots why) → Did view streams plan a k x (Over (status_of slots result)) a k x
-  did_over_by slots result why is over = did_fail view streams plan a k x slots a k x result why is (did_over (Over (status_of_volume slots why)) over)
+      → program ≡ Over (status_of_volume slots why) → Did view streams program a k x (Over (status_of slots result)) a k x
+  did_over_by slots result why is over = did_fail view streams program a k x slots a k x result why is (did_over (Over (status_of_volume slots why)) over)
 
   -- something was done to the devices, and it is over
   pub did_fault : {y : Devices R W} (slots : ℕ) (result : Result (Unit {0}) VolumeFault) (why : VolumeFault) → IsErrAnd result (λ f. f ≡ why)
-      → ComesTo view plan (Over (status_of_volume slots why)) x y → Did view streams plan a k x (Over (status_of slots result)) a k y
+      → ExecutesOnDevices view program (Over (status_of_volume slots why)) x y → Did view streams program a k x (Over (status_of slots result)) a k y
   did_fault {y} slots result why is comes =
-      did_fail view streams plan a k x slots a k y result why is (did_come view streams plan a k x a k (did_none view streams plan a k x) comes)
+      did_fail view streams program a k x slots a k y result why is (did_come view streams program a k x a k (did_none view streams program a k x) comes)
 
   -- or a line is put out
   pub did_line : {y : Devices R W} {l : K} (slots : ℕ) (line other : List ℕ) (result : Result (Unit {0}) VolumeFault) → other ≡ line
-      → ComesTo view plan (Put line (Over Done)) x y → PutsTo streams.sink (Put other (Over Done)) (after_done slots result (Over Done)) k l
-      → Did view streams plan a k x (Over (status_of slots result)) a l y
+      → ExecutesOnDevices view program (Put line (Over Done)) x y → PutsTo streams.sink (Put other (Over Done)) (after_done slots result (Over Done)) k l
+      → Did view streams program a k x (Over (status_of slots result)) a l y
   did_line {y} {l} slots line other result same comes puts =
-      did_end view streams plan a k x slots a l y result
-      (did_put view streams plan a k x a y (did_come view streams plan a k x a k (did_none view streams plan a k x) comes)
+      did_end view streams program a k x slots a l y result
+      (did_put view streams program a k x a y (did_come view streams program a k x a k (did_none view streams program a k x) comes)
       (subst (λ (said : List ℕ). PutsTo streams.sink (Put said (Over Done)) (after_done slots result (Over Done)) k l) same puts))
 
   -- all that was done was put out
-  pub did_puts : {rest : Plan} {l : K} → PutsTo streams.sink plan rest k l → Did view streams plan a k x rest a l x
-  did_puts puts = did_put view streams plan a k x a x (did_none view streams plan a k x) puts
+  pub did_puts : {rest : Program} {l : K} → PutsTo streams.sink program rest k l → Did view streams program a k x rest a l x
+  did_puts puts = did_put view streams program a k x a x (did_none view streams program a k x) puts
 
 -- ---- the table
 
@@ -163,18 +163,18 @@ none_ready g (volume.Write name block count) other = refl
 -- block 0 was read, or not
 module _ {R W S K : Type 0} (view : DeviceView R W) (streams : Views S K) (job : VolumeJob) (g : Geometry) (page : List ℕ) (a : S) (k : K) {x y : Devices R W} where
   pub page_read : (result : Result (Unit {0}) ArrayFault) → Takes view (ReadBlock 0) (answer_as page result) x y
-      → Did view streams (volume_plan job g) a k x (after_steps g.n result (on_table g job (table_of (block_count g) page))) a k y
+      → Did view streams (volume_program job g) a k x (after_steps g.n result (on_table g job (table_of (block_count g) page))) a k y
   page_read result takes =
-      did_come view streams (volume_plan job g) a k x a k (did_none view streams (volume_plan job g) a k x)
+      did_come view streams (volume_program job g) a k x a k (did_none view streams (volume_program job g) a k x)
       (comes_read view g.n 0 page result (λ bytes. on_table g job (table_of (block_count g) bytes)) takes)
 
   -- what is done after it, of an array whose geometry is this one
   module _ (takes : Takes view (ReadBlock 0) (Ok page) x y) (h : Geometry) (same : h ≡ g) (count : ℕ) (all : count ≡ block_count h) (table : Option Table)
       (is : table ≡ table_of count page) {b : S} {l : K} {z : Devices R W} where
     pub page_then : (result : Result (Unit {0}) VolumeFault) → Did view streams (on_table h job table) a k y (Over (status_of h.n result)) b l z
-        → Did view streams (volume_plan job g) a k x (Over (status_of g.n result)) b l z
+        → Did view streams (volume_program job g) a k x (Over (status_of g.n result)) b l z
     page_then result did counter =
         let read : table_of (block_count g) page ≡ table = ap (λ (n : ℕ). table_of n page) (ap block_count (sym same) ∙ sym all) ∙ sym is in
-        with_then view streams (did_so view streams (volume_plan job g) a k x a k y (ap (on_table g job) read) (page_read (Ok tt) takes) counter)
-        (subst (λ (of : Geometry). MeansWith view streams (on_table of job table) (Over (status_of of.n result)) (outside a k counter) (outside b l counter) y z) same
+        with_then view streams (did_so view streams (volume_program job g) a k x a k y (ap (on_table g job) read) (page_read (Ok tt) takes) counter)
+        (subst (λ (of : Geometry). ExecutesWith view streams (on_table of job table) (Over (status_of of.n result)) (outside a k counter) (outside b l counter) y z) same
         (did counter))

@@ -7,11 +7,11 @@ use Rattle.stair_array.specs.Faults.{refusal_for}
 use Rattle.stair_array.specs.Machine.{ReadBlock, WriteBlocks, write_block}
 use Rattle.stair_conf.specs.declared.job.VolumeJob.{VolumeJob}
 use Rattle.stair_conf.specs.declared.job.VolumeJob.TheVariants as volume
-use Rattle.stair_story.specs.Fault.{status_of_fault}
-use Rattle.stair_story.specs.Pieces.{piece_blocks}
-use Rattle.stair_story.specs.Plan.{Plan, Over, Put, if_so, take_step}
-use Rattle.stair_story.specs.Refused.{status_of_refusal}
-use Rattle.stair_story.specs.Transfers.{if_within, is_within, reads, writes}
+use Rattle.stair_command.specs.Fault.{status_of_fault}
+use Rattle.stair_command.specs.Pieces.{piece_blocks}
+use Rattle.stair_command.specs.Program.{Program, Over, Put, if_so, take_step}
+use Rattle.stair_command.specs.Refused.{status_of_refusal}
+use Rattle.stair_command.specs.Transfers.{if_within, is_within, reads, writes}
 use Rattle.stair_status.specs.declared.status.Status.{Status}
 use Rattle.stair_status.specs.declared.status.Status.TheVariants.{Done, NameTaken, NoRoom, NoTable, NoVolume, TableFull, TableThere}
 use Rattle.stair_volume.specs.declared.extent.Entry.{Entry}
@@ -63,7 +63,7 @@ dropped_line name = codes "dropped " ++ (name ++ 10 ∷ [])
 -- STEPS
 
 -- Zeros are written to so many blocks from this one on, those of a stripe as one step. There are no more turns than blocks.
-abbrev pub clears : Geometry → (turns first left : ℕ) → (rest : Plan) → Plan
+abbrev pub clears : Geometry → (turns first left : ℕ) → (rest : Program) → Program
 clears g zero first left rest = rest
 clears g (suc turns) first left rest = if_so (left == 0) rest
     (take_step g.n (WriteBlocks first (replicate (piece_blocks g first left) zero_block))
@@ -71,39 +71,39 @@ clears g (suc turns) first left rest = if_so (left == 0) rest
     (left - piece_blocks g first left) rest))
 
 -- the table is written
-abbrev pub sets_table : Geometry → Table → (rest : Plan) → Plan
+abbrev pub sets_table : Geometry → Table → (rest : Program) → Program
 sets_table g table rest =
     take_step g.n (write_block 0 (table_bytes table.entries)) (λ ok. rest)
 
 -- the blocks of a volume, if there is one of the name
-abbrev pub if_found : Option Extent → (Extent → Plan) → Plan
+abbrev pub if_found : Option Extent → (Extent → Program) → Program
 if_found None k = Over NoVolume
 if_found (Some extent) k = k extent
 
 -- so many blocks of a volume, counted from its first
-abbrev pub within_volume : Extent → (block count : ℕ) → Plan → Plan
-within_volume extent block count plan =
-    if_within extent.blocks block (is_within extent.blocks block count) plan
+abbrev pub within_volume : Extent → (block count : ℕ) → Program → Program
+within_volume extent block count program =
+    if_within extent.blocks block (is_within extent.blocks block count) program
 
 -- A WAY FOR EACH COMMAND
 
 -- all its blocks are zeros before the table has the new volume
-abbrev pub makes : Geometry → (name : List ℕ) → Result Table TableFault → Plan
+abbrev pub makes : Geometry → (name : List ℕ) → Result Table TableFault → Program
 makes g name (Err why) = Over (status_of_table why)
 makes g name (Ok table) = if_found (find_in table.entries name) (λ extent.
     clears g extent.blocks extent.first extent.blocks
     (sets_table g table (Put (made_line name extent) (Over Done))))
 
-abbrev pub removes : Geometry → (name : List ℕ) → Result Table TableFault → Plan
+abbrev pub removes : Geometry → (name : List ℕ) → Result Table TableFault → Program
 removes g name (Err why) = Over (status_of_table why)
 removes g name (Ok table) = sets_table g table (Put (dropped_line name) (Over Done))
 
-abbrev pub lists : List Entry → Plan
+abbrev pub lists : List Entry → Program
 lists [] = Over Done
 lists (entry ∷ later) = Put (volume_line entry.name entry.extent) (lists later)
 
 -- what is done where block 0 is this table, or none
-abbrev pub on_table : Geometry → VolumeJob → Option Table → Plan
+abbrev pub on_table : Geometry → VolumeJob → Option Table → Program
 on_table g volume.Ready None =
     sets_table g (table_with (block_count g) []) (Put ready_line (Over Done))
 on_table g volume.Ready (Some table) = Over TableThere
@@ -119,8 +119,8 @@ on_table g (volume.Write name block count) (Some table) =
     (writes g (extent.first + block) count count 0 []))
 
 -- the table is read first
-abbrev pub volume_plan : VolumeJob → Geometry → Plan
-volume_plan job g = take_step g.n (ReadBlock 0)
+abbrev pub volume_program : VolumeJob → Geometry → Program
+volume_program job g = take_step g.n (ReadBlock 0)
     (λ bytes. on_table g job (table_of (block_count g) bytes))
 
 -- KINDS

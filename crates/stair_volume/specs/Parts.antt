@@ -5,9 +5,9 @@ use Rattle.stair_array.specs.declared.fault.ArrayFault.{ArrayFault}
 use Rattle.stair_array.specs.declared.fault.ArrayFault.TheVariants as array
 use Rattle.stair_conf.specs.declared.job.VolumeJob.{VolumeJob}
 use Rattle.stair_conf.specs.declared.job.VolumeJob.TheVariants as volume
-use Rattle.stair_story.specs.Plan.{Plan, Over, Put}
-use Rattle.stair_story.specs.Refused.{status_of_refusal}
-use Rattle.stair_story.specs.Transfers.{is_within}
+use Rattle.stair_command.specs.Program.{Program, Over, Put}
+use Rattle.stair_command.specs.Refused.{status_of_refusal}
+use Rattle.stair_command.specs.Transfers.{is_within}
 use Rattle.stair_status.specs.declared.status.Status.TheVariants.{Done}
 use Rattle.stair_volume.specs.declared.extent.Entry.{Entry}
 use Rattle.stair_volume.specs.declared.extent.Extent.{Extent}
@@ -18,17 +18,17 @@ use Rattle.stair_volume.specs.Commands.{status_of_volume}
 use Rattle.stair_volume.specs.Table.{find_in}
 
 -- after steps of an array of so many slots, of which one may be refused
-abbrev pub after_steps : (slots : ℕ) → Result (Unit {0}) ArrayFault → (rest : Plan) → Plan
+abbrev pub after_steps : (slots : ℕ) → Result (Unit {0}) ArrayFault → (rest : Program) → Program
 after_steps slots (Ok done) rest = rest
 after_steps slots (Err why) rest = Over (status_of_refusal slots (refusal_for why))
 
 -- after something that was done, or wasn't
-abbrev pub after_done : (slots : ℕ) → Result (Unit {0}) VolumeFault → (rest : Plan) → Plan
+abbrev pub after_done : (slots : ℕ) → Result (Unit {0}) VolumeFault → (rest : Program) → Program
 after_done slots (Ok done) rest = rest
 after_done slots (Err why) rest = Over (status_of_volume slots why)
 
 -- after a change of the volumes, of which a line is put out
-abbrev pub after_line : (slots : ℕ) → Result (List ℕ) VolumeFault → Plan
+abbrev pub after_line : (slots : ℕ) → Result (List ℕ) VolumeFault → Program
 after_line slots (Ok line) = Put line (Over Done)
 after_line slots (Err why) = Over (status_of_volume slots why)
 

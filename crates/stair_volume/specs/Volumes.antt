@@ -4,14 +4,14 @@ use Rattle.std.specs.List.{concat}
 use Rattle.stair_model.specs.Geometry.{IsWithinLimits, block_count}
 use Rattle.stair_rack.specs.History.{Happening}
 use Rattle.stair_member.specs.Seats.{Seats}
-use Rattle.stair_session.specs.Returning.{Returning}
+use Rattle.stair_invariant.specs.Returning.{Returning}
 use Rattle.stair_array.specs.Machine.{CutWithin, IsAsItWas, Step}
 use Rattle.stair_conf.specs.Name.{IsName}
-use Rattle.stair_story.specs.Plan.{Plan, Over, opens_array}
-use Rattle.stair_story.specs.Run.{IsNext, Now, Runs, now}
-use Rattle.stair_story.specs.Story.{Deed, Leads, Moves, put_in, taken_in}
+use Rattle.stair_command.specs.Program.{Program, Over, opens_array}
+use Rattle.stair_command.specs.Run.{IsNext, Now, Runs, now}
+use Rattle.stair_command.specs.Trace.{TraceItem, AlongTrace, StepsProgram, put_in, taken_in}
 use Rattle.stair_status.specs.declared.status.Status.TheVariants.{Done}
-use Rattle.stair_volume.specs.Commands.{volume_plan}
+use Rattle.stair_volume.specs.Commands.{volume_program}
 use Rattle.stair_model.specs.Stripe.{SECTOR}
 use Rattle.stair_state.specs.Blocks.{Blocks, zero_block}
 use Rattle.stair_state.specs.State.{State, new_content}
@@ -173,28 +173,28 @@ pub record IsFinished (job : VolumeJob) (taken put : List ℕ) (s now : State) :
 
 -- THE LAWS
 
--- Of a story that follows the plan of a command, from the opening of an array that is in a state, as a run of the machine: at each
+-- Of a trace that follows the program of a command, from the opening of an array that is in a state, as a run of the machine: at each
 -- moment of it, and where a crash cuts the step that comes next.
 abbrev pub VolumesStay : Type 0
 VolumesStay = (returning : Returning) (before : List Happening) (job : VolumeJob)
-    (done : List Deed) (rest : Plan) (s : State) (new : Now) (h : List Happening) → IsCommand job
-    → IsWithinLimits s.geometry → Leads Moves done (opens_array (volume_plan job)) rest
+    (done : List TraceItem) (rest : Program) (s : State) (new : Now) (h : List Happening) → IsCommand job
+    → IsWithinLimits s.geometry → AlongTrace StepsProgram done (opens_array (volume_program job)) rest
     → Runs returning before done (now s h None) new
     → Goes job (taken_in done) s new.state
 
 abbrev pub CutsAreSafe : Type 0
 CutsAreSafe = (returning : Returning) (before : List Happening) (job : VolumeJob)
-    (done : List Deed) (rest : Plan) (s left : State) (new : Now) (h : List Happening)
+    (done : List TraceItem) (rest : Program) (s left : State) (new : Now) (h : List Happening)
     (step : Step) (begun : Seats) → IsCommand job → IsWithinLimits s.geometry
-    → Leads Moves done (opens_array (volume_plan job)) rest
+    → AlongTrace StepsProgram done (opens_array (volume_program job)) rest
     → Runs returning before done (now s h None) new → IsNext rest step → new.stopped ≡ None
     → CutWithin step begun new.state left → Goes job (taken_in done) s left
 
 -- And where all of it was done.
 abbrev pub DoneIsFinished : Type 0
 DoneIsFinished = (returning : Returning) (before : List Happening) (job : VolumeJob)
-    (done : List Deed) (s : State) (new : Now) (h : List Happening) → IsCommand job
-    → IsWithinLimits s.geometry → Leads Moves done (opens_array (volume_plan job)) (Over Done)
+    (done : List TraceItem) (s : State) (new : Now) (h : List Happening) → IsCommand job
+    → IsWithinLimits s.geometry → AlongTrace StepsProgram done (opens_array (volume_program job)) (Over Done)
     → Runs returning before done (now s h None) new
     → IsFinished job (taken_in done) (put_in done) s new.state
 

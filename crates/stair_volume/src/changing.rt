@@ -1,13 +1,13 @@
 // The commands that change which volumes there are.
 ghost use Rattle.std.specs.Prelude.{◌≡◌, ◌+◌, ◌*◌, ◌<◌, ◌≤◌, ◌++◌, ℕ, None, length, replicate};
-ghost use Rattle.stair_array.specs.Promise.{Opened as IsOpen};
+ghost use Rattle.stair_array.specs.Promise.{Opened};
 ghost use Rattle.stair_model.specs.Geometry.{block_count, data_cells};
 ghost use Rattle.stair_model.specs.Stripe.{SECTOR as BYTES};
 ghost use Rattle.stair_conf.specs.declared.job.VolumeJob.TheVariants as volume;
-ghost use Rattle.stair_story.specs.Comes.{ComesTo};
-ghost use Rattle.stair_story.specs.Devices.{device_view, devices};
-ghost use Rattle.stair_story.specs.Plan.{Plan};
-ghost use Rattle.stair_story.specs.Rack.{rack_view};
+ghost use Rattle.stair_command.specs.Comes.{ExecutesOnDevices};
+ghost use Rattle.stair_command.specs.Devices.{device_view, devices};
+ghost use Rattle.stair_command.specs.Program.{Program};
+ghost use Rattle.stair_command.specs.Rack.{rack_view};
 ghost use Rattle.stair_watch.specs.WatcherList.{AllStay};
 ghost use Rattle.stair_volume.specs.Changes.{with_volume, without_volume};
 ghost use Rattle.stair_volume.specs.Commands.{clears, dropped_line as line_of_dropped, made_line as line_of_made, makes, on_table, ready_line as line_of_ready, removes, sets_table, volume_line};
@@ -20,24 +20,24 @@ use crate::table_fault::TableFault;
 use crate::writing::write_table;
 use stair_array::ArrayFault;
 use stair_base::{SECTOR, StripeCode};
+use stair_command::{ObservedArray, piece_blocks};
 use stair_conf::Name;
 use stair_rack::{Rack, Watcher};
-use stair_story::{Opened, piece_blocks};
 use stair_watch::Line;
 
 /// Makes block 0 a table without volumes. The line that tells so is answered.
 pub(crate) fn make_ready<C: StripeCode, R: Rack>(
-    array: &mut Opened<C>,
+    array: &mut ObservedArray<C>,
     rack: &mut R,
     watchers: &mut Vec<Box<dyn Watcher>>,
 ) -> Result<Line, VolumeFault>
     requires stay { AllStay hears watchers.old.items }
-    ensures comes { ComesTo
+    ensures comes { ExecutesOnDevices
         (device_view (rack_view R.Rack) hears)
         (on_table array.old.member.array.geometry volume.Ready None)
         (after_line array.old.member.array.geometry.n result)
-        (devices rack.old (IsOpen array.old) watchers.old.items)
-        (devices rack.new (IsOpen array.new) watchers.new.items) }
+        (devices rack.old (Opened array.old) watchers.old.items)
+        (devices rack.new (Opened array.new) watchers.new.items) }
     ensures stay { AllStay hears watchers.new.items }
 {
     let empty = Table::empty(array.geometry().blocks());
@@ -51,7 +51,7 @@ pub(crate) fn make<C: StripeCode, R: Rack>(
     name: Name,
     blocks: u64,
     zeros: &[u8],
-    array: &mut Opened<C>,
+    array: &mut ObservedArray<C>,
     rack: &mut R,
     watchers: &mut Vec<Box<dyn Watcher>>,
 ) -> Result<Line, VolumeFault>
@@ -59,12 +59,12 @@ pub(crate) fn make<C: StripeCode, R: Rack>(
     requires some { 1 ≤ blocks }
     requires zeros { zeros.now ≡ replicate (BYTES * data_cells array.old.member.array.geometry) 0 }
     requires stay { AllStay hears watchers.old.items }
-    ensures comes { ComesTo
+    ensures comes { ExecutesOnDevices
         (device_view (rack_view R.Rack) hears)
         (makes array.old.member.array.geometry name (with_volume table.now name blocks))
         (after_line array.old.member.array.geometry.n result)
-        (devices rack.old (IsOpen array.old) watchers.old.items)
-        (devices rack.new (IsOpen array.new) watchers.new.items) }
+        (devices rack.old (Opened array.old) watchers.old.items)
+        (devices rack.new (Opened array.new) watchers.new.items) }
     ensures stay { AllStay hears watchers.new.items }
 {
     let grown = table.with(name, blocks)?;
@@ -80,17 +80,17 @@ pub(crate) fn make<C: StripeCode, R: Rack>(
 pub(crate) fn remove<C: StripeCode, R: Rack>(
     table: &Table,
     name: Name,
-    array: &mut Opened<C>,
+    array: &mut ObservedArray<C>,
     rack: &mut R,
     watchers: &mut Vec<Box<dyn Watcher>>,
 ) -> Result<Line, VolumeFault>
     requires stay { AllStay hears watchers.old.items }
-    ensures comes { ComesTo
+    ensures comes { ExecutesOnDevices
         (device_view (rack_view R.Rack) hears)
         (removes array.old.member.array.geometry name (without_volume table.now name))
         (after_line array.old.member.array.geometry.n result)
-        (devices rack.old (IsOpen array.old) watchers.old.items)
-        (devices rack.new (IsOpen array.new) watchers.new.items) }
+        (devices rack.old (Opened array.old) watchers.old.items)
+        (devices rack.new (Opened array.new) watchers.new.items) }
     ensures stay { AllStay hears watchers.new.items }
 {
     let shrunk = table.without(name)?;
@@ -102,19 +102,19 @@ pub(crate) fn remove<C: StripeCode, R: Rack>(
 fn clear<C: StripeCode, R: Rack>(
     extent: Extent,
     zeros: &[u8],
-    array: &mut Opened<C>,
+    array: &mut ObservedArray<C>,
     rack: &mut R,
     watchers: &mut Vec<Box<dyn Watcher>>,
 ) -> Result<(), ArrayFault>
     requires within { extent.first + extent.blocks ≤ block_count array.old.member.array.geometry }
     requires zeros { zeros.now ≡ replicate (BYTES * data_cells array.old.member.array.geometry) 0 }
     requires stay { AllStay hears watchers.old.items }
-    ensures comes { (rest : Plan) → ComesTo
+    ensures comes { (rest : Program) → ExecutesOnDevices
         (device_view (rack_view R.Rack) hears)
         (clears array.old.member.array.geometry extent.blocks extent.first extent.blocks rest)
         (after_steps array.old.member.array.geometry.n result rest)
-        (devices rack.old (IsOpen array.old) watchers.old.items)
-        (devices rack.new (IsOpen array.new) watchers.new.items) }
+        (devices rack.old (Opened array.old) watchers.old.items)
+        (devices rack.new (Opened array.new) watchers.new.items) }
     ensures geometry { array.new.member.array.geometry ≡ array.old.member.array.geometry }
     ensures stay { AllStay hears watchers.new.items }
 {
@@ -134,17 +134,17 @@ fn clear<C: StripeCode, R: Rack>(
 // Writes the table.
 fn set_table<C: StripeCode, R: Rack>(
     table: &Table,
-    array: &mut Opened<C>,
+    array: &mut ObservedArray<C>,
     rack: &mut R,
     watchers: &mut Vec<Box<dyn Watcher>>,
 ) -> Result<(), ArrayFault>
     requires stay { AllStay hears watchers.old.items }
-    ensures comes { (rest : Plan) → ComesTo
+    ensures comes { (rest : Program) → ExecutesOnDevices
         (device_view (rack_view R.Rack) hears)
         (sets_table array.old.member.array.geometry table.now rest)
         (after_steps array.old.member.array.geometry.n result rest)
-        (devices rack.old (IsOpen array.old) watchers.old.items)
-        (devices rack.new (IsOpen array.new) watchers.new.items) }
+        (devices rack.old (Opened array.old) watchers.old.items)
+        (devices rack.new (Opened array.new) watchers.new.items) }
     ensures geometry { array.new.member.array.geometry ≡ array.old.member.array.geometry }
     ensures stay { AllStay hears watchers.new.items }
 {

@@ -1,16 +1,16 @@
 // The commands on volumes.
 ghost use Rattle.std.specs.Prelude.{◌≡◌, ◌+◌, ◌*◌, ◌^◌, ◌<◌, ◌≤◌, ℕ, [], IfErr, IfOk, Some, replicate};
-ghost use Rattle.stair_array.specs.Promise.{Opened as IsOpen};
+ghost use Rattle.stair_array.specs.Promise.{Opened};
 ghost use Rattle.stair_model.specs.Geometry.{block_count, data_cells};
 ghost use Rattle.stair_model.specs.Stripe.{SECTOR as BYTES};
-ghost use Rattle.stair_story.specs.Devices.{MeansWith, device_view, devices};
-ghost use Rattle.stair_story.specs.Outside.{outside, sink_alone, sink_view, views};
-ghost use Rattle.stair_story.specs.Plan.{Over};
-ghost use Rattle.stair_story.specs.Rack.{rack_view};
-ghost use Rattle.stair_story.specs.Talks.{PutsTo};
-ghost use Rattle.stair_story.specs.Transfers.{reads};
+ghost use Rattle.stair_command.specs.Devices.{ExecutesWith, device_view, devices};
+ghost use Rattle.stair_command.specs.Outside.{outside, sink_alone, sink_view, views};
+ghost use Rattle.stair_command.specs.Program.{Over};
+ghost use Rattle.stair_command.specs.Rack.{rack_view};
+ghost use Rattle.stair_command.specs.Talks.{PutsTo};
+ghost use Rattle.stair_command.specs.Transfers.{reads};
 ghost use Rattle.stair_watch.specs.WatcherList.{AllStay};
-ghost use Rattle.stair_volume.specs.Commands.{lists, on_table, status_of, volume_plan};
+ghost use Rattle.stair_volume.specs.Commands.{lists, on_table, status_of, volume_program};
 ghost use Rattle.stair_volume.specs.Parts.{IsFirstBlock, IsNoRange, MakesSome};
 
 use crate::changing::{make, make_ready, push_volume, remove};
@@ -22,9 +22,9 @@ use crate::table::Table;
 use crate::table_fault::TableFault;
 use stair_array::ArrayFault;
 use stair_base::{SECTOR, StripeCode};
+use stair_command::{ObservedArray, Piece, write_input};
 use stair_conf::{Name, VolumeJob};
 use stair_rack::{Rack, Sink, Source, Watcher};
-use stair_story::{Opened, Piece, write_input};
 use stair_watch::Line;
 
 /// Does a command on the volumes of an open array.
@@ -35,7 +35,7 @@ use stair_watch::Line;
 ///
 /// `zeros` are those of the blocks of a stripe, and `piece` has room for as many bytes; no memory is taken.
 pub fn volume<C: StripeCode, R: Rack, S: Source, K: Sink>(
-    array: &mut Opened<C>,
+    array: &mut ObservedArray<C>,
     rack: &mut R,
     job: &VolumeJob,
     zeros: &[u8],
@@ -49,13 +49,13 @@ pub fn volume<C: StripeCode, R: Rack, S: Source, K: Sink>(
     requires room { data_cells array.old.member.array.geometry * BYTES ≤ piece.old.room }
     requires empty { piece.old.bytes ≡ [] }
     requires stay { AllStay hears watchers.old.items }
-    ensures means { (counter : ℕ) → MeansWith
+    ensures means { (counter : ℕ) → ExecutesWith
         (device_view (rack_view R.Rack) hears) (views S.Source K.Sink)
-        (volume_plan job.now array.old.member.array.geometry)
+        (volume_program job.now array.old.member.array.geometry)
         (Over (status_of array.old.member.array.geometry.n result))
         (outside input.old output.old counter) (outside input.new output.new counter)
-        (devices rack.old (IsOpen array.old) watchers.old.items)
-        (devices rack.new (IsOpen array.new) watchers.new.items) }
+        (devices rack.old (Opened array.old) watchers.old.items)
+        (devices rack.new (Opened array.new) watchers.new.items) }
     ensures stay { AllStay hears watchers.new.items }
 {
     let mut page = [0; SECTOR];
@@ -77,7 +77,7 @@ pub fn volume<C: StripeCode, R: Rack, S: Source, K: Sink>(
 // Does a command where block 0 is this table.
 fn with_table<C: StripeCode, R: Rack, S: Source, K: Sink>(
     table: &Table,
-    array: &mut Opened<C>,
+    array: &mut ObservedArray<C>,
     rack: &mut R,
     job: &VolumeJob,
     zeros: &[u8],
@@ -92,13 +92,13 @@ fn with_table<C: StripeCode, R: Rack, S: Source, K: Sink>(
     requires room { data_cells array.old.member.array.geometry * BYTES ≤ piece.old.room }
     requires empty { piece.old.bytes ≡ [] }
     requires stay { AllStay hears watchers.old.items }
-    ensures means { (counter : ℕ) → MeansWith
+    ensures means { (counter : ℕ) → ExecutesWith
         (device_view (rack_view R.Rack) hears) (views S.Source K.Sink)
         (on_table array.old.member.array.geometry job.now (Some table.now))
         (Over (status_of array.old.member.array.geometry.n result))
         (outside input.old output.old counter) (outside input.new output.new counter)
-        (devices rack.old (IsOpen array.old) watchers.old.items)
-        (devices rack.new (IsOpen array.new) watchers.new.items) }
+        (devices rack.old (Opened array.old) watchers.old.items)
+        (devices rack.new (Opened array.new) watchers.new.items) }
     ensures stay { AllStay hears watchers.new.items }
 {
     match *job {
@@ -159,21 +159,21 @@ fn first_block(table: &Table, name: Name, block: u64, count: u64) -> Result<u64,
 fn put_blocks<C: StripeCode, R: Rack, K: Sink>(
     first: u64,
     blocks: u64,
-    array: &mut Opened<C>,
+    array: &mut ObservedArray<C>,
     rack: &mut R,
     output: &mut K,
     watchers: &mut Vec<Box<dyn Watcher>>,
 ) -> Result<(), VolumeFault>
     requires fits { 0 < blocks → first + blocks < 2 ^ 37 }
     requires stay { AllStay hears watchers.old.items }
-    ensures means { (counter : ℕ) → MeansWith
+    ensures means { (counter : ℕ) → ExecutesWith
         (device_view (rack_view R.Rack) hears)
         (sink_alone K.Sink)
         (reads array.old.member.array.geometry first blocks)
         (Over (status_of array.old.member.array.geometry.n result))
         (outside tt output.old counter) (outside tt output.new counter)
-        (devices rack.old (IsOpen array.old) watchers.old.items)
-        (devices rack.new (IsOpen array.new) watchers.new.items) }
+        (devices rack.old (Opened array.old) watchers.old.items)
+        (devices rack.new (Opened array.new) watchers.new.items) }
     ensures stay { AllStay hears watchers.new.items }
 {
     let mut block = [0; SECTOR];

@@ -1,12 +1,12 @@
 ghost use Rattle.std.specs.Prelude.{◌≡◌};
 ghost use Rattle.stair_array.specs.Faults.{refusal_for};
-ghost use Rattle.stair_story.specs.Refused.{status_of_refusal};
+ghost use Rattle.stair_command.specs.Refused.{status_of_refusal};
 ghost use Rattle.stair_volume.specs.Commands.{status_of_table, status_of_volume};
 ghost use Rattle.stair_volume.specs.declared.fault.VolumeFault.TheVariants as volume;
 
 use crate::table_fault::TableFault;
 use stair_array::ArrayFault;
-use stair_story::{Fault, Status};
+use stair_command::{Fault, Status};
 
 /// Why a command on volumes wasn't done.
 #[derive(Clone, Copy, Debug, PartialEq, Eq)]

@@ -2,7 +2,7 @@
 
 ghost use Rattle.stair_volume.specs.Volumes.{CutsAreSafe, DoneIsFinished, VolumesReadAlike, VolumesStay};
 
-/// Along a story that follows the plan of a command as a run of the machine, the volumes are those from before, or those after; and
+/// Along a trace that follows the program of a command as a run of the machine, the volumes are those from before, or those after; and
 /// where all is done they are those after. A volume that is the same in two arrays reads the same. It does nothing.
 pub fn volume_laws()
     ensures stay { VolumesStay }

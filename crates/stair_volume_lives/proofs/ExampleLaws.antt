@@ -10,7 +10,7 @@ use Rattle.stair_model.specs.Stripe.{SECTOR}
 use Rattle.stair_state.specs.Blocks.{Blocks, zero_block}
 use Rattle.stair_state.specs.State.{new_content}
 use Rattle.stair_conf.specs.declared.job.VolumeJob.TheVariants as volume
-use Rattle.stair_story.specs.LifeExample.{block_of, example_geometry}
+use Rattle.stair_command.specs.LifeExample.{block_of, example_geometry}
 use Rattle.stair_volume.specs.Page.{HasTable, table_bytes}
 use Rattle.stair_volume.specs.Table.{Table, table_with}
 use Rattle.stair_volume.specs.Volumes.{AreFront, HasDone, HasVolumes, IsAmong, IsSettled, Volume}

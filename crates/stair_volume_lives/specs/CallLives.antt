@@ -4,57 +4,57 @@ use Rattle.stair_model.specs.Geometry.{IsWithinLimits, block_count}
 use Rattle.stair_rack.specs.History.{Happening}
 use Rattle.stair_state.specs.Blocks.{Blocks}
 use Rattle.stair_state.specs.State.{State, without_seats}
-use Rattle.stair_session.specs.Returning.{Returning, StandsFor}
+use Rattle.stair_invariant.specs.Returning.{Returning, StandsFor}
 use Rattle.stair_array.specs.Machine.{Step}
 use Rattle.stair_conf.specs.Words.{Spells}
 use Rattle.stair_conf.specs.declared.job.Job.TheVariants.{Volume}
 use Rattle.stair_conf.specs.declared.job.VolumeJob.{VolumeJob}
-use Rattle.stair_story.specs.Devices.{DeviceView}
-use Rattle.stair_story.specs.Ending.{EachStep}
-use Rattle.stair_story.specs.Lives.{IsWriteOf}
-use Rattle.stair_story.specs.Outside.{Views}
-use Rattle.stair_story.specs.Plan.{Plan, Over}
-use Rattle.stair_story.specs.Run.{IsNext}
-use Rattle.stair_story.specs.Sessions.{Calls, Cut, Ends, Starts}
-use Rattle.stair_story.specs.Story.{Deed, Leads, Moves, put_in, taken_in}
+use Rattle.stair_command.specs.Devices.{DeviceView}
+use Rattle.stair_command.specs.Ending.{EachStep}
+use Rattle.stair_command.specs.Lives.{IsWriteOf}
+use Rattle.stair_command.specs.Outside.{Views}
+use Rattle.stair_command.specs.Program.{Program, Over}
+use Rattle.stair_command.specs.Run.{IsNext}
+use Rattle.stair_command.specs.Sessions.{Calls, Cut, Ends, Starts}
+use Rattle.stair_command.specs.Trace.{TraceItem, AlongTrace, StepsProgram, put_in, taken_in}
 use Rattle.stair_status.specs.declared.status.Status.{Status}
 use Rattle.stair_status.specs.declared.status.Status.TheVariants.{Done}
 use Rattle.stair_volume.specs.Volumes.{IsSettled}
-use Rattle.stair_engine.specs.Plans.{plan_of}
+use Rattle.stair_engine.specs.Programs.{program_of}
 use Rattle.stair_volume_lives.specs.Lives.{Began, Begins, Did, IsExplained, IsOfVolume, Lives, Other, Turn}
 
 -- WHAT A CALL IS TO VOLUMES
 
 -- no step that the call took, or that came next when it was cut, writes this block
-abbrev pub WritesNone : (b : ℕ) → Plan → (story : List Deed) → Type 0
-WritesNone b plan story = (done later : List Deed) (rest : Plan) (step : Step)
-    → story ≡ done ++ later → Leads Moves done plan rest → IsNext rest step → ¬ IsWriteOf b step
+abbrev pub WritesNone : (b : ℕ) → Program → (trace : List TraceItem) → Type 0
+WritesNone b program trace = (done later : List TraceItem) (rest : Program) (step : Step)
+    → trace ≡ done ++ later → AlongTrace StepsProgram done program rest → IsNext rest step → ¬ IsWriteOf b step
 
 -- so it is of each block of the table and of the volume that the rack holds
-abbrev pub LeavesBlocks : (name : List ℕ) → Returning → List Happening → Plan → (story : List Deed) → Type 0
-LeavesBlocks name returning h plan story = (s : State) (held : Blocks) (b : ℕ)
+abbrev pub LeavesBlocks : (name : List ℕ) → Returning → List Happening → Program → (trace : List TraceItem) → Type 0
+LeavesBlocks name returning h program trace = (s : State) (held : Blocks) (b : ℕ)
     → StandsFor returning s h → IsSettled s held
-    → IsOfVolume name (block_count s.geometry) held b → WritesNone b plan story
+    → IsOfVolume name (block_count s.geometry) held b → WritesNone b program trace
 
 -- The words of the call spell a command on volumes, or it writes no block of the table or of the volume.
-pub data Kind (name : List ℕ) (returning : Returning) (h : List Happening) (plan rest : Plan) (story : List Deed)
+pub data Kind (name : List ℕ) (returning : Returning) (h : List Happening) (program rest : Program) (trace : List TraceItem)
     : Type 0 where
   OnVolumes : (words : List (List ℕ)) → (job : VolumeJob) → (status : Status)
-      → Spells words (Volume job) → plan ≡ plan_of words → rest ≡ Over status
-      → Kind name returning h plan rest story
-  Leaves : LeavesBlocks name returning h plan story → Kind name returning h plan rest story
+      → Spells words (Volume job) → program ≡ program_of words → rest ≡ Over status
+      → Kind name returning h program rest trace
+  Leaves : LeavesBlocks name returning h program trace → Kind name returning h program rest trace
 
 -- each of these calls is of a kind
 abbrev pub Kinds : (name : List ℕ) → {R W S K : Type 0} (view : DeviceView R W) (streams : Views S K)
     (returning : Returning) (first : State) (h : List Happening)
     → Calls view streams returning first h → Type 0
 Kinds name view streams returning first h (Starts h' history stands) = ⊤
-Kinds name view streams returning first h (Ends later plan rest old new x y watchers left calls borne calm acted between) =
+Kinds name view streams returning first h (Ends later program rest old new x y watchers left calls borne calm acted between) =
     Kinds name view streams returning first (view.rack.history x) calls
-    × Kind name returning (view.rack.history x) plan rest borne.over.means.story
-Kinds name view streams returning first h (Cut c image later plan rest old new x y watchers left calls borne at calm crash acted between) =
+    × Kind name returning (view.rack.history x) program rest borne.over.means.trace
+Kinds name view streams returning first h (Cut c image later program rest old new x y watchers left calls borne at calm crash acted between) =
     Kinds name view streams returning first (view.rack.history x) calls
-    × Kind name returning (view.rack.history x) plan rest borne.over.means.story
+    × Kind name returning (view.rack.history x) program rest borne.over.means.trace
 
 -- ITS TURN
 
@@ -64,17 +64,17 @@ turn_of job Done taken put = Did job taken put
 turn_of job _ taken put = Began job taken
 
 -- the turn of a call that ended
-abbrev pub IsTurnOf : {name : List ℕ} {returning : Returning} {h : List Happening} {plan rest : Plan} {story : List Deed}
-    → Kind name returning h plan rest story → Turn → Type 0
-IsTurnOf {name} {returning} {h} {plan} {rest} {story} (OnVolumes words job status spells is ends) turn =
-    turn ≡ turn_of job status (taken_in story) (put_in story)
+abbrev pub IsTurnOf : {name : List ℕ} {returning : Returning} {h : List Happening} {program rest : Program} {trace : List TraceItem}
+    → Kind name returning h program rest trace → Turn → Type 0
+IsTurnOf {name} {returning} {h} {program} {rest} {trace} (OnVolumes words job status spells is ends) turn =
+    turn ≡ turn_of job status (taken_in trace) (put_in trace)
 IsTurnOf (Leaves leaves) turn = turn ≡ Other
 
--- The turn of a call that a crash cut: by then it had done the first of its deeds.
-abbrev pub IsCutTurnOf : {name : List ℕ} {returning : Returning} {h : List Happening} {plan rest : Plan}
-    {story : List Deed} → Kind name returning h plan rest story → Turn → Type 0
-IsCutTurnOf {name} {returning} {h} {plan} {rest} {story} (OnVolumes words job status spells is ends) turn =
-    (done : List Deed) × (later : List Deed) × (story ≡ done ++ later)
+-- The turn of a call that a crash cut: by then it had done the first of its items.
+abbrev pub IsCutTurnOf : {name : List ℕ} {returning : Returning} {h : List Happening} {program rest : Program}
+    {trace : List TraceItem} → Kind name returning h program rest trace → Turn → Type 0
+IsCutTurnOf {name} {returning} {h} {program} {rest} {trace} (OnVolumes words job status spells is ends) turn =
+    (done : List TraceItem) × (later : List TraceItem) × (trace ≡ done ++ later)
     × (turn ≡ Began job (taken_in done))
 IsCutTurnOf (Leaves leaves) turn = turn ≡ Other
 
@@ -84,11 +84,11 @@ abbrev pub AreTurnsOf : (name : List ℕ) → {R W S K : Type 0} (view : DeviceV
     (calls : Calls view streams returning first h)
     → Kinds name view streams returning first h calls → List Turn → Type 0
 AreTurnsOf name view streams returning first h (Starts h' history stands) kinds life = life ≡ []
-AreTurnsOf name view streams returning first h (Ends later plan rest old new x y watchers left calls borne calm acted between) kinds life =
+AreTurnsOf name view streams returning first h (Ends later program rest old new x y watchers left calls borne calm acted between) kinds life =
     (turn : Turn) × (before : List Turn)
     × AreTurnsOf name view streams returning first (view.rack.history x) calls kinds.0 before
     × IsTurnOf kinds.1 turn × (life ≡ turn ∷ before)
-AreTurnsOf name view streams returning first h (Cut c image later plan rest old new x y watchers left calls borne at calm crash acted between) kinds life =
+AreTurnsOf name view streams returning first h (Cut c image later program rest old new x y watchers left calls borne at calm crash acted between) kinds life =
     (turn : Turn) × (before : List Turn)
     × AreTurnsOf name view streams returning first (view.rack.history x) calls kinds.0 before
     × IsCutTurnOf kinds.1 turn × (life ≡ turn ∷ before)
@@ -118,7 +118,7 @@ CallsAreLived R W S K = (name : List ℕ) (view : DeviceView R W) (streams : Vie
     (kinds : Kinds name view streams returning first h calls) → IsTrue view.rack.honest
     → IsWithinLimits first.geometry → IsVolumeLife name view streams returning first h calls kinds
 
--- A call leaves a block if its plan has no write of it.
-abbrev pub PlansWriteNone : Type 0
-PlansWriteNone = (b : ℕ) (plan : Plan) (story : List Deed)
-    → EachStep (λ step. ¬ IsWriteOf b step) plan → WritesNone b plan story
+-- A call leaves a block if its program has no write of it.
+abbrev pub ProgramsWriteNone : Type 0
+ProgramsWriteNone = (b : ℕ) (program : Program) (trace : List TraceItem)
+    → EachStep (λ step. ¬ IsWriteOf b step) program → WritesNone b program trace

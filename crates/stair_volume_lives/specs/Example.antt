@@ -4,7 +4,7 @@ use Rattle.std.specs.List.{concat}
 use Rattle.stair_state.specs.Blocks.{Blocks, with_block, with_blocks, zero_block, zero_blocks}
 use Rattle.stair_state.specs.State.{BlocksAre, State, created_state, first_content}
 use Rattle.stair_conf.specs.declared.job.VolumeJob.TheVariants as volume
-use Rattle.stair_story.specs.LifeExample.{block_of, example_geometry}
+use Rattle.stair_command.specs.LifeExample.{block_of, example_geometry}
 use Rattle.stair_volume.specs.declared.extent.Entry.{Entry}
 use Rattle.stair_volume.specs.Changes.{volume_of}
 use Rattle.stair_volume.specs.Page.{table_bytes}

@@ -1,7 +1,7 @@
 //! What the reads of volumes give, over a life.
 
 ghost use Rattle.stair_volume_lives.specs.Lives.{LivesAreExplained, MadeIsZero, ReadsAgree, ReadsAreLast, WrittenIsRead};
-ghost use Rattle.stair_volume_lives.specs.CallLives.{CallsAreLived, PlansWriteNone};
+ghost use Rattle.stair_volume_lives.specs.CallLives.{CallsAreLived, ProgramsWriteNone};
 ghost use Rattle.stair_volume_lives.specs.Example.{EachIsReadAgain, EitherIsLived};
 
 /// What follows of every list of commands on an array, each whole or cut, for each volume. It does nothing.
@@ -23,8 +23,8 @@ pub fn volume_calls<R, W, S, K>()
     // commands on volumes, and calls that write no block of a volume or of the table, are one life of this volume, which explains each
     // `vread` of it that was done
     ensures lived { CallsAreLived R W S K }
-    // a call whose plan has no write of a block leaves it
-    ensures unwritten { PlansWriteNone }
+    // a call whose program has no write of a block leaves it
+    ensures unwritten { ProgramsWriteNone }
 {}
 
 /// A volume of two blocks, a write of both that a crash cuts, and reads after it. It does nothing.

@@ -5,7 +5,7 @@ use Rattle.std.specs.Option.{option_map}
 use Rattle.std.proofs.lemmas.Bool.{cases_Bool, cond-true, cond-false, false≢true}
 use Rattle.stair_rack.specs.declared.watcher.Event.{Event}
 use Rattle.stair_rack.specs.declared.watcher.EventKind.{EventKind}
-use Rattle.stair_rack.specs.Watching.{Patience, WatcherView, Hears, IsPatient, count_of, is_kind, kind_of, less, less_of}
+use Rattle.stair_rack.specs.Watching.{RemainingQuota, WatcherView, Hears, IsPatient, count_of, is_kind, kind_of, less, less_of}
 use Rattle.stair_watch.specs.WatcherList.{AllStay, AreLeft, EachHears, GoesOn, LeavesAmong, Tells, TellsAll, stayed}
 
 count_of-append : (kind : EventKind) (a b : List Event) → count_of kind (a ++ b) ≡ count_of kind a + count_of kind b
@@ -27,9 +27,9 @@ count_of-append kind (e ∷ a) b =
       )
     ]
 
--- ---- patience
+-- ---- remaining quota
 
-patient_then : (a b : List Event) (p : Patience) → IsPatient a p → IsPatient b (less a p) → IsPatient (a ++ b) p
+patient_then : (a b : List Event) (p : RemainingQuota) → IsPatient a p → IsPatient b (less a p) → IsPatient (a ++ b) p
 patient_then a b p first later = (omega (arith, first.0, later.0, length-append a b), kinds p.kind first.1 later.1)
   where
     kinds : (o : Option (EventKind × ℕ)) → IfSome o (λ k. count_of k.0 a < k.1) → IfSome (option_map (less_of a) o) (λ k. count_of k.0 b < k.1)
@@ -37,7 +37,7 @@ patient_then a b p first later = (omega (arith, first.0, later.0, length-append 
     kinds None first later = tt
     kinds (Some k) first later = omega (arith, first, later, count_of-append k.0 a b)
 
-patient_after : (a b : List Event) (p : Patience) → IsPatient (a ++ b) p → IsPatient b (less a p)
+patient_after : (a b : List Event) (p : RemainingQuota) → IsPatient (a ++ b) p → IsPatient b (less a p)
 patient_after a b p all = (omega (arith, all.0, length-append a b), kinds p.kind all.1)
   where
     kinds : (o : Option (EventKind × ℕ)) → IfSome o (λ k. count_of k.0 (a ++ b) < k.1)
@@ -45,14 +45,14 @@ patient_after a b p all = (omega (arith, all.0, length-append a b), kinds p.kind
     kinds None all = tt
     kinds (Some k) all = omega (arith, all, count_of-append k.0 a b)
 
-patient_before : (a b : List Event) (p : Patience) → IsPatient (a ++ b) p → IsPatient a p
+patient_before : (a b : List Event) (p : RemainingQuota) → IsPatient (a ++ b) p → IsPatient a p
 patient_before a b p all = (omega (arith, all.0, length-append a b), kinds p.kind all.1)
   where
     kinds : (o : Option (EventKind × ℕ)) → IfSome o (λ k. count_of k.0 (a ++ b) < k.1) → IfSome o (λ k. count_of k.0 a < k.1)
     kinds None all = tt
     kinds (Some k) all = omega (arith, all, count_of-append k.0 a b)
 
-less_none : (p : Patience) → less [] p ≡ p
+less_none : (p : RemainingQuota) → less [] p ≡ p
 less_none p = λ i. record { all = alls i; kind = kinds p.kind i }
   where
     alls : p.all - 0 ≡ p.all
@@ -62,7 +62,7 @@ less_none p = λ i. record { all = alls i; kind = kinds p.kind i }
     kinds None = refl
     kinds (Some k) = let same : k.1 - 0 ≡ k.1 = omega arith in λ i. Some (k.0, same i)
 
-less_then : (a b : List Event) (p : Patience) → less b (less a p) ≡ less (a ++ b) p
+less_then : (a b : List Event) (p : RemainingQuota) → less b (less a p) ≡ less (a ++ b) p
 less_then a b p = λ i. record { all = alls i; kind = kinds p.kind i }
   where
     alls : p.all - length a - length b ≡ p.all - length (a ++ b)
@@ -86,12 +86,12 @@ list_none : (o : Option (List Event)) → o ≡ option_map (λ told. told ++ [])
 list_none None = refl
 list_none (Some x) = ap Some (sym (append-nil x))
 
-waits_then : (a b : List Event) (o p q : Option Patience) → p ≡ option_map (less a) o → q ≡ option_map (less b) p
+waits_then : (a b : List Event) (o p q : Option RemainingQuota) → p ≡ option_map (less a) o → q ≡ option_map (less b) p
     → q ≡ option_map (less (a ++ b)) o
 waits_then a b None p q first later = later ∙ ap (option_map (less b)) first
 waits_then a b (Some x) p q first later = later ∙ ap (option_map (less b)) first ∙ ap Some (less_then a b x)
 
-waits_none : (o : Option Patience) → o ≡ option_map (less []) o
+waits_none : (o : Option RemainingQuota) → o ≡ option_map (less []) o
 waits_none None = refl
 waits_none (Some p) = ap Some (sym (less_none p))
 
@@ -100,34 +100,34 @@ module _ {W : Type 0} (view : WatcherView W) where
   hears_then a b u v w first later = record {
     list = list_then a b (view u).told (view v).told (view w).told first.list later.list;
     counts = λ kind. omega (arith, first.counts kind, later.counts kind, count_of-append kind a b);
-    waits = waits_then a b (view u).patience (view v).patience (view w).patience first.waits later.waits;
+    waits = waits_then a b (view u).remaining_quota (view v).remaining_quota (view w).remaining_quota first.waits later.waits;
   }
 
   hears_none : (w : W) → Hears view [] w w
   hears_none w = record {
     list = list_none (view w).told;
     counts = λ kind. omega arith;
-    waits = waits_none (view w).patience;
+    waits = waits_none (view w).remaining_quota;
   }
 
-  -- one event, and then others: of a watcher's patience, as its own and as what is left of it
-  goes_then : (event : Event) (events : List Event) (o p : Option Patience) → p ≡ option_map (less (event ∷ [])) o
+  -- one event, and then others: of a watcher's remaining quota, as its own and as what is left of it
+  goes_then : (event : Event) (events : List Event) (o p : Option RemainingQuota) → p ≡ option_map (less (event ∷ [])) o
       → GoesOn (event ∷ []) o → GoesOn events p → GoesOn (event ∷ events) o
   goes_then event [] o p is first later = first
   goes_then event (x ∷ events) None p is first later = tt
   goes_then event (x ∷ events) (Some q) p is first later =
-      patient_then (event ∷ []) (x ∷ events) q first (subst (λ (r : Option Patience). IfSome r (IsPatient (x ∷ events))) is later)
+      patient_then (event ∷ []) (x ∷ events) q first (subst (λ (r : Option RemainingQuota). IfSome r (IsPatient (x ∷ events))) is later)
 
-  leaves_later : (event : Event) (events : List Event) (o p : Option Patience) → p ≡ option_map (less (event ∷ [])) o
+  leaves_later : (event : Event) (events : List Event) (o p : Option RemainingQuota) → p ≡ option_map (less (event ∷ [])) o
       → LeavesAmong events p → LeavesAmong (event ∷ events) o
   leaves_later event [] o p is leaves = absurd leaves
   leaves_later event (x ∷ events) None p is leaves = tt
   leaves_later event (x ∷ events) (Some q) p is leaves =
       let out : ¬ IsPatient (x ∷ events) (less (event ∷ []) q) =
-      subst (λ (r : Option Patience). IfSome r (λ y. ¬ IsPatient (x ∷ events) y)) is leaves in
+      subst (λ (r : Option RemainingQuota). IfSome r (λ y. ¬ IsPatient (x ∷ events) y)) is leaves in
       λ all. out (patient_after (event ∷ []) (x ∷ events) q all)
 
-  leaves_sooner : (event : Event) (events : List Event) (o : Option Patience) → LeavesAmong (event ∷ []) o → LeavesAmong (event ∷ events) o
+  leaves_sooner : (event : Event) (events : List Event) (o : Option RemainingQuota) → LeavesAmong (event ∷ []) o → LeavesAmong (event ∷ events) o
   leaves_sooner event events None leaves = tt
   leaves_sooner event events (Some q) leaves = λ all. leaves (patient_before (event ∷ []) events q all)
 
@@ -137,7 +137,7 @@ module _ {W : Type 0} (view : WatcherView W) where
       → AreLeft view (event ∷ events) x z
   left_then event events [] y z first later = subst (λ (l : List W). AreLeft view events l z) first later
   left_then event events (w ∷ x) y z (inr gone) later =
-      inr (leaves_sooner event events (view w).patience gone.0, left_then event events x y z gone.1 later)
+      inr (leaves_sooner event events (view w).remaining_quota gone.0, left_then event events x y z gone.1 later)
   left_then event events (w ∷ x) y z (inl stays) later =
       let v = stays.0 in
       let rest = stays.1 in
@@ -148,12 +148,12 @@ module _ {W : Type 0} (view : WatcherView W) where
           also.1,
           hears_then (event ∷ []) events w v also.0 heard also.2,
           also.3,
-          goes_then event events (view w).patience (view v).patience heard.waits stays.4 also.4,
+          goes_then event events (view w).remaining_quota (view v).remaining_quota heard.waits stays.4 also.4,
           left_then event events x rest also.1 stays.5 also.5,
           also.6,
         )
         | inr gone ↦ inr (
-          leaves_later event events (view w).patience (view v).patience heard.waits gone.0,
+          leaves_later event events (view w).remaining_quota (view v).remaining_quota heard.waits gone.0,
           left_then event events x rest z stays.5 gone.1,
         )
       ]
@@ -175,19 +175,19 @@ module _ {W : Type 0} (view : WatcherView W) where
         | inl gone ↦
             subst (λ (l : List W). AreLeft view (event ∷ []) (w ∷ old) l)
             (sym (cond-true (view later).left (stayed view rest) (later ∷ stayed view rest) gone))
-            (inr (spent (view w).patience gone one.leaves, more))
+            (inr (spent (view w).remaining_quota gone one.leaves, more))
         | inr stays ↦
             subst (λ (l : List W). AreLeft view (event ∷ []) (w ∷ old) l)
             (sym (cond-false (view later).left (stayed view rest) (later ∷ stayed view rest) stays))
-            (inl (later, stayed view rest, one.hears, stays, waiting (view w).patience stays one.leaves, more, refl))
+            (inl (later, stayed view rest, one.hears, stays, waiting (view w).remaining_quota stays one.leaves, more, refl))
       ])
     where
-      spent : {left : Bool} (o : Option Patience) → left ≡ true → IfSome o (λ p. (left ≡ false) ↔ IsPatient (event ∷ []) p)
+      spent : {left : Bool} (o : Option RemainingQuota) → left ≡ true → IfSome o (λ p. (left ≡ false) ↔ IsPatient (event ∷ []) p)
           → LeavesAmong (event ∷ []) o
       spent None gone leaves = tt
       spent (Some p) gone leaves = λ patient. false≢true (sym (leaves.1 patient) ∙ gone)
 
-      waiting : {left : Bool} (o : Option Patience) → left ≡ false → IfSome o (λ p. (left ≡ false) ↔ IsPatient (event ∷ []) p)
+      waiting : {left : Bool} (o : Option RemainingQuota) → left ≡ false → IfSome o (λ p. (left ≡ false) ↔ IsPatient (event ∷ []) p)
           → GoesOn (event ∷ []) o
       waiting None stays leaves = tt
       waiting (Some p) stays leaves = leaves.0 stays

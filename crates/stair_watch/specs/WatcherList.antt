@@ -1,6 +1,6 @@
 -- Watchers that are told in order: who is left, and what each has heard.
 use Rattle.std.specs.Prelude.{◌≡◌, ◌⊎◌, false, List, [], ◌∷◌, IfSome, Option, if◌then◌else◌, ⊤}
-use Rattle.stair_rack.specs.Watching.{WatcherView, Hears, HearsOne, IsPatient, Patience}
+use Rattle.stair_rack.specs.Watching.{WatcherView, Hears, HearsOne, IsPatient, RemainingQuota}
 use Rattle.stair_rack.specs.declared.watcher.Event.{Event}
 
 -- none of them has left
@@ -30,21 +30,21 @@ abbrev pub TellsAll : {W : Type 0} → WatcherView W → List Event → List W �
 TellsAll view [] old new = new ≡ old
 TellsAll {W} view (event ∷ events) old new = (mid : List W) × Tells view event old mid × TellsAll view events mid new
 
--- A watcher of this patience is told on after these events: it waits for more than these, or doesn't tell its patience, or
+-- A watcher of this remaining quota is told on after these events: it waits for more than these, or doesn't tell its remaining quota, or
 -- there are no events.
-abbrev pub GoesOn : List Event → Option Patience → Type 0
+abbrev pub GoesOn : List Event → Option RemainingQuota → Type 0
 GoesOn [] waits = ⊤
 GoesOn (event ∷ events) waits = IfSome waits (IsPatient (event ∷ events))
 
--- one of this patience isn't: it left at one of them, or doesn't tell its patience
-abbrev pub LeavesAmong : List Event → Option Patience → Type 0
+-- one of this remaining quota isn't: it left at one of them, or doesn't tell its remaining quota
+abbrev pub LeavesAmong : List Event → Option RemainingQuota → Type 0
 LeavesAmong [] waits = ⊥
-LeavesAmong (event ∷ events) waits = IfSome waits (λ patience. ¬ IsPatient (event ∷ events) patience)
+LeavesAmong (event ∷ events) waits = IfSome waits (λ remaining_quota. ¬ IsPatient (event ∷ events) remaining_quota)
 
 -- After these events the list has those of the old one that are told on, in their order, each with all that it heard.
 abbrev pub AreLeft : {W : Type 0} → WatcherView W → List Event → List W → List W → Type 0
 AreLeft view events [] new = new ≡ []
 AreLeft {W} view events (w ∷ list) new =
     ((later : W) × (rest : List W) × Hears view events w later × ((view later).left ≡ false)
-    × GoesOn events (view w).patience × AreLeft view events list rest × (new ≡ later ∷ rest))
-    ⊎ (LeavesAmong events (view w).patience × AreLeft view events list new)
+    × GoesOn events (view w).remaining_quota × AreLeft view events list rest × (new ≡ later ∷ rest))
+    ⊎ (LeavesAmong events (view w).remaining_quota × AreLeft view events list new)

@@ -1,7 +1,7 @@
 -- The three watchers, as contracts see them.
 use Rattle.std.proofs.Common.{arith}
 use Rattle.std.specs.Prelude.{◌≡◌, ◌-◌, ◌^◌, ℕ, Bool, false, List, [], length, None, Some, nat_le}
-use Rattle.stair_rack.specs.Watching.{IsPatient, Patience, WatcherView, sum_of_counts, watcher_view}
+use Rattle.stair_rack.specs.Watching.{IsPatient, RemainingQuota, WatcherView, sum_of_counts, watcher_view}
 use Rattle.stair_rack.specs.declared.watcher.Counts.{Counts}
 use Rattle.stair_rack.specs.declared.watcher.Event.{Event}
 use Rattle.stair_rack.specs.declared.watcher.EventKind.{EventKind}
@@ -21,7 +21,7 @@ abbrev pub no_counts : Counts
 no_counts = record { fenced = 0; repaired = 0; admitted = 0; promoted = 0 }
 
 -- so many events of the limit came, and the rest is waited for, of whatever kinds
-abbrev pub rest_of : ℕ → ℕ → Patience
+abbrev pub rest_of : ℕ → ℕ → RemainingQuota
 rest_of limit came = record { all = limit - came; kind = None }
 
 -- one that hasn't reached its limit waits for an event more at least

@@ -1,7 +1,7 @@
 //! The laws of watchers that are told in order.
 
 ghost use Rattle.std.specs.Prelude.{◌≡◌, ◌↔◌, ℕ, Bool, List, ◌++◌, Option, length};
-ghost use Rattle.stair_rack.specs.Watching.{Patience, WatcherView, watcher_view};
+ghost use Rattle.stair_rack.specs.Watching.{RemainingQuota, WatcherView, watcher_view};
 ghost use Rattle.stair_rack.specs.declared.watcher.Event.{Event};
 ghost use Rattle.stair_rack.specs.declared.watcher.EventKind.{EventKind};
 ghost use Rattle.stair_watch.specs.WatcherList.{AllStay, AreLeft, Tells, TellsAll};
@@ -25,12 +25,12 @@ pub fn watch_laws<W>()
 /// What a watcher tells has four members, and nothing else. It does nothing.
 pub fn heard_laws<W>()
     // given member by member, it has these members
-    ensures members { (told : W → Option (List Event)) (count : W → EventKind → ℕ) (left : W → Bool) (patience : W → Option Patience)
-        (w : W) → ((watcher_view told count left patience w).told ≡ told w)
-        × ((watcher_view told count left patience w).count ≡ count w)
-        × ((watcher_view told count left patience w).left ≡ left w)
-        × ((watcher_view told count left patience w).patience ≡ patience w) }
+    ensures members { (told : W → Option (List Event)) (count : W → EventKind → ℕ) (left : W → Bool) (remaining_quota : W → Option RemainingQuota)
+        (w : W) → ((watcher_view told count left remaining_quota w).told ≡ told w)
+        × ((watcher_view told count left remaining_quota w).count ≡ count w)
+        × ((watcher_view told count left remaining_quota w).left ≡ left w)
+        × ((watcher_view told count left remaining_quota w).remaining_quota ≡ remaining_quota w) }
     // and whatever it tells is given so
     ensures whole { (view : WatcherView W) →
-        view ≡ watcher_view (λ w. (view w).told) (λ w. (view w).count) (λ w. (view w).left) (λ w. (view w).patience) }
+        view ≡ watcher_view (λ w. (view w).told) (λ w. (view w).count) (λ w. (view w).left) (λ w. (view w).remaining_quota) }
 {}

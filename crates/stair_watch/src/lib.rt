@@ -10,7 +10,7 @@ mod tally;
 mod told;
 
 pub use kept::Kept;
-pub use line::{LINE_LIMIT, Line};
+pub use line::{Line, MAX_OUTPUT_LINE};
 pub use printer::Printer;
 pub use put::put_until_fault;
 pub use tally::Tally;

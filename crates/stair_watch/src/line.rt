@@ -5,24 +5,24 @@ ghost use Rattle.std.specs.Fmt.{decimal};
 use std::marker::Model;
 
 /// A line has at most so many bytes. The longest one, of a number and the 1,024 digits of a sector, has fewer.
-pub const LINE_LIMIT: usize = 1100;
+pub const MAX_OUTPUT_LINE: usize = 1100;
 
 /// A line of text, as far as it is made.
 #[derive(Drop)]
 pub struct Line {
-    bytes: [u8; LINE_LIMIT],
+    bytes: [u8; MAX_OUTPUT_LINE],
     len: usize,
 }
 
 impl Model for Line {
     ghost use Rattle.std.specs.Prelude.{ℕ, ◌≤◌, List, take};
-    ghost use Rattle.stair_watch.specs.declared.line.TheConstants.{LINE_LIMIT};
+    ghost use Rattle.stair_watch.specs.declared.line.TheConstants.{MAX_OUTPUT_LINE};
 
     ghost Value = { List ℕ };
 
     ghost view = { λ line. take line.len line.bytes };
 
-    ghost invariant = { λ line. line.len ≤ LINE_LIMIT };
+    ghost invariant = { λ line. line.len ≤ MAX_OUTPUT_LINE };
 }
 
 impl Line {
@@ -32,14 +32,14 @@ impl Line {
         ensures len { length result ≡ 0 }
     {
         Line {
-            bytes: [0; LINE_LIMIT],
+            bytes: [0; MAX_OUTPUT_LINE],
             len: 0,
         }
     }
 
     /// Appends the bytes, for which there is room.
     pub fn push(&mut self, piece: &[u8])
-        requires { length self.old + length piece.now ≤ LINE_LIMIT }
+        requires { length self.old + length piece.now ≤ MAX_OUTPUT_LINE }
         ensures text { self.new ≡ self.old ++ piece.now }
         ensures len { length self.new ≡ length self.old + length piece.now }
     {
@@ -50,7 +50,7 @@ impl Line {
 
     /// Appends a name, and a number in decimal digits, of which there are at most 20.
     pub fn push_named(&mut self, name: &[u8], number: u64)
-        requires { length self.old + length name.now + 20 ≤ LINE_LIMIT }
+        requires { length self.old + length name.now + 20 ≤ MAX_OUTPUT_LINE }
         ensures text { self.new ≡ self.old ++ (name.now ++ decimal number) }
         ensures short { length self.new ≤ length self.old + length name.now + 20 }
     {

@@ -27,7 +27,7 @@ pub fn add(
 /// order. It takes no memory.
 pub fn tell(watchers: &mut Vec<Box<dyn Watcher>>, event: Event)
     requires { AllStay hears watchers.old.items }
-    ensures told { Tells hears event watchers.old.items watchers.new.items }
+    ensures does { Tells hears event watchers.old.items watchers.new.items }
 
     // None of those that are left has left, so they may be told of the next event.
     ensures stay { AllStay hears watchers.new.items }

@@ -7,13 +7,13 @@ use Rattle.stair_conf.specs.declared.fault.WordsFault.{WordsFault}
 use Rattle.stair_conf.specs.declared.fault.WordsFault.TheVariants.{Usage}
 use Rattle.stair_array.specs.Promise.{Begun}
 use Rattle.stair_status.specs.declared.status.Status.TheVariants as status
-use Rattle.stair_story.specs.Devices.{device_view}
-use Rattle.stair_story.specs.Outside.{outside, views}
-use Rattle.stair_story.specs.Rack.{rack_view}
+use Rattle.stair_command.specs.Devices.{device_view}
+use Rattle.stair_command.specs.Outside.{outside, views}
+use Rattle.stair_command.specs.Rack.{rack_view}
 use Rattle.stair_engine.proofs.BoundsLaws.{draws_are_bounded}
 use Rattle.stair_engine.proofs.CallLaws.{array_is_left, array_is_made, arrays_are_spared, still_spared}
-use Rattle.stair_session.specs.Returning.{AnyReturns}
-use Rattle.stair_engine.proofs.CompleteLaws.{all_is_complete, all_is_complete_wherever}
+use Rattle.stair_invariant.specs.Returning.{AnyReturns}
+use Rattle.stair_engine.proofs.CompleteLaws.{all_is_complete, all_is_complete_with_reinsertion}
 use Rattle.stair_engine.proofs.CountedLaws.{scrubs_are_counted}
 use Rattle.stair_engine.proofs.HaltLaws.{guards_halt}
 use Rattle.stair_engine.proofs.MadeLaws.{is_made}
@@ -33,14 +33,14 @@ returns-in-Ok g c =
     let whole =
     job_done devices view words old c.args.rack.now c.args.watchers.now.items (Some c.in-Ok.job) c.work.result _ _ _ c.in-Ok.ensures.ok c.work.ensures.means in
     record {
-      borne_out = call_borne devices view words old c.args.rack.now c.args.watchers.now.items c.work.result _ _ _ whole;
+      refines = call_borne devices view words old c.args.rack.now c.args.watchers.now.items c.work.result _ _ _ whole;
       stay = c.work.ensures.stay;
       memory = λ memory. job_line _ c.in-Ok.job c.in-Ok.ensures.ok;
       created = λ honest spells once. array_is_made _ _ _ _ devices view words c.work.result old _ c.args.rack.now _ _ _ whole spells honest once;
       spared = λ honest spells. arrays_are_spared _ _ _ _ devices view words c.work.result old _ c.args.rack.now _ _ _ whole spells honest;
       stands = λ honest other. array_is_left _ _ _ _ devices view words c.work.result old _ c.args.rack.now _ _ _ whole other honest;
       complete = λ job spells. all_is_complete _ _ _ _ devices view words job c.work.result old _ c.args.rack.now _ _ _ spells whole;
-      complete_wherever = λ job spells. all_is_complete_wherever _ _ _ _ AnyReturns devices view words job c.work.result old _ c.args.rack.now _ _ _ spells;
+      complete_with_reinsertion = λ job spells. all_is_complete_with_reinsertion _ _ _ _ AnyReturns devices view words job c.work.result old _ c.args.rack.now _ _ _ spells;
       halted = λ events fences spells. guards_halt _ _ _ _ devices view words events fences c.work.result old _ c.args.rack.now _ _ _ spells c.requires;
       answered = λ spells returning. clients_are_answered _ _ _ _ returning devices view words c.work.result old _ c.args.rack.now _ _ _ spells;
       volumes = λ job spells. volumes_are_changed _ _ _ _ devices view words job c.work.result old _ c.args.rack.now _ _ _ spells;
@@ -50,8 +50,8 @@ returns-in-Ok g c =
       counted = λ honest spells. scrubs_are_counted _ _ _ _ devices view words c.work.result old _ c.args.rack.now _ _ _ spells whole honest;
     }
 
-pub returns-in-Err-Usage-clause-borne_out : goal.returns-in-Err-Usage-clause-borne_out
-returns-in-Err-Usage-clause-borne_out g c =
+pub returns-in-Err-Usage-clause-refines : goal.returns-in-Err-Usage-clause-refines
+returns-in-Err-Usage-clause-refines g c =
     let view = views g.S.Source g.K.Sink in
     let devices = device_view (rack_view g.R.Rack) (λ b. (goal.Watcher-dyn g (b.vtable, b.value)).hears b.value) in
     let words = map string_bytes c.args.words.now in
@@ -66,8 +66,8 @@ returns-in-Err-Usage-clause-borne_out g c =
           (λ spelled. c.read_words.ensures.usage usage spelled.0 spelled.1);
     })
 
-pub returns-in-Err-Memory-clause-borne_out : goal.returns-in-Err-Memory-clause-borne_out
-returns-in-Err-Memory-clause-borne_out g c =
+pub returns-in-Err-Memory-clause-refines : goal.returns-in-Err-Memory-clause-refines
+returns-in-Err-Memory-clause-refines g c =
     let view = views g.S.Source g.K.Sink in
     let devices = device_view (rack_view g.R.Rack) (λ b. (goal.Watcher-dyn g (b.vtable, b.value)).hears b.value) in
     short_borne devices view (map string_bytes c.args.words.now) _ _ _

@@ -3,7 +3,7 @@ use Rattle.std.proofs.Common.{◌∙◌, ◌≡◌, ap, refl, None}
 use Rattle.std.specs.Prelude.{Ok}
 use Rattle.stair_rack.specs.Told.{told}
 use Rattle.stair_super.specs.declared.configuration.Configuration.{Configuration}
-use Rattle.stair_session.specs.Courses.{point}
+use Rattle.stair_invariant.specs.Effects.{snapshot}
 use Rattle.stair_array.specs.Arrays.{OpenArray, state_of}
 use Rattle.stair_array.specs.Promise.{rebuild_after}
 use Rattle.stair_array.proofs.GoesOnLemmas.{progress_then}
@@ -15,10 +15,10 @@ pub returns-in-Some-clause-rebuild : goal.returns-in-Some-clause-rebuild
 returns-in-Some-clause-rebuild g c =
     rebuild_stays c.args.array.now.member c.args.array.now.rebuild c.geometry.ensures.under
 
-pub returns-in_err-is_free-clause-told : goal.returns-in_err-is_free-clause-told
-returns-in_err-is_free-clause-told g c none =
+pub returns-in_err-is_free-clause-does : goal.returns-in_err-is_free-clause-does
+returns-in_err-is_free-clause-does g c none =
     rw c.forget.ensures
-    (not_free (point c.args.array.now.member (told g.R.Rack c.args.rack.now)) c.args.slot _ _ c.from_residual.ensures.1
+    (not_free (snapshot c.args.array.now.member (told g.R.Rack c.args.rack.now)) c.args.slot _ _ c.from_residual.ensures.1
     (rw c.forget.ensures at c.in_err-is_free.ensures.not))
 
 pub returns-in_err-is_free-clause-rebuild : goal.returns-in_err-is_free-clause-rebuild
@@ -29,12 +29,12 @@ pub returns-in_err-is_free-clause-goes_on : goal.returns-in_err-is_free-clause-g
 returns-in_err-is_free-clause-goes_on g c none =
     rw c.forget.ensures (progress_then None (progress_none (state_of c.args.array.now) c.geometry.ensures.under))
 
-pub returns-in_err-prepare_slot-clause-told : goal.returns-in_err-prepare_slot-clause-told
-returns-in_err-prepare_slot-clause-told g c none =
-    unprepared c.args.slot (point c.args.array.now.member (told g.R.Rack c.args.rack.now))
-    (point c.prepare_slot.new.array.member (told g.R.Rack c.prepare_slot.new.rack)) _ _
+pub returns-in_err-prepare_slot-clause-does : goal.returns-in_err-prepare_slot-clause-does
+returns-in_err-prepare_slot-clause-does g c none =
+    unprepared c.args.slot (snapshot c.args.array.now.member (told g.R.Rack c.args.rack.now))
+    (snapshot c.prepare_slot.new.array.member (told g.R.Rack c.prepare_slot.new.rack)) _ _
     c.from_residual-in_err-prepare_slot.ensures.1 (rw c.forget.ensures at c.in_ok-is_free.ensures.free)
-    (rw c.forget.ensures at c.in_err-prepare_slot.ensures.told)
+    (rw c.forget.ensures at c.in_err-prepare_slot.ensures.does)
 
 pub returns-in_err-prepare_slot-clause-rebuild : goal.returns-in_err-prepare_slot-clause-rebuild
 returns-in_err-prepare_slot-clause-rebuild g c =
@@ -44,13 +44,13 @@ pub returns-in_err-prepare_slot-clause-goes_on : goal.returns-in_err-prepare_slo
 returns-in_err-prepare_slot-clause-goes_on g c none =
     rw (c.in_err-prepare_slot.ensures.same, c.forget.ensures) (progress_then None (progress_none (state_of c.args.array.now) c.geometry.ensures.under))
 
-pub returns-in_err-admit_slot-clause-told : goal.returns-in_err-admit_slot-clause-told
-returns-in_err-admit_slot-clause-told g c none =
-    unadmitted c.args.slot (point c.args.array.now.member (told g.R.Rack c.args.rack.now))
-    (point c.prepare_slot.new.array.member (told g.R.Rack c.prepare_slot.new.rack))
-    (point c.admit_slot.new.self.member (told g.R.Rack c.admit_slot.new.rack)) _ _ c.from_residual-in_err-admit_slot.ensures.1
-    (rw c.forget.ensures at c.in_ok-is_free.ensures.free) (rw c.forget.ensures at c.in_ok-prepare_slot.ensures.told)
-    (c.in_err-admit_slot.ensures.told c.prepare_slot.ensures.going)
+pub returns-in_err-admit_slot-clause-does : goal.returns-in_err-admit_slot-clause-does
+returns-in_err-admit_slot-clause-does g c none =
+    unadmitted c.args.slot (snapshot c.args.array.now.member (told g.R.Rack c.args.rack.now))
+    (snapshot c.prepare_slot.new.array.member (told g.R.Rack c.prepare_slot.new.rack))
+    (snapshot c.admit_slot.new.self.member (told g.R.Rack c.admit_slot.new.rack)) _ _ c.from_residual-in_err-admit_slot.ensures.1
+    (rw c.forget.ensures at c.in_ok-is_free.ensures.free) (rw c.forget.ensures at c.in_ok-prepare_slot.ensures.does)
+    (c.in_err-admit_slot.ensures.does c.prepare_slot.ensures.going)
 
 pub returns-in_err-admit_slot-clause-rebuild : goal.returns-in_err-admit_slot-clause-rebuild
 returns-in_err-admit_slot-clause-rebuild g c =
@@ -102,10 +102,10 @@ returns-clause-news g c =
     admitted_news c.args.slot (Ok tt) _ c.prepare_slot.new.array.member.array _ _ c.prepare_slot.new.array.news _ named were
     c.in_ok-admit_slot.ensures.news
 
-pub returns-clause-told : goal.returns-clause-told
-returns-clause-told g c none =
-    admitted c.args.slot (point c.args.array.now.member (told g.R.Rack c.args.rack.now))
-    (point c.prepare_slot.new.array.member (told g.R.Rack c.prepare_slot.new.rack))
-    (point c.admit_slot.new.self.member (told g.R.Rack c.admit_slot.new.rack)) (Ok tt)
-    (rw c.forget.ensures at c.in_ok-is_free.ensures.free) (rw c.forget.ensures at c.in_ok-prepare_slot.ensures.told)
-    (c.in_ok-admit_slot.ensures.told c.prepare_slot.ensures.going)
+pub returns-clause-does : goal.returns-clause-does
+returns-clause-does g c none =
+    admitted c.args.slot (snapshot c.args.array.now.member (told g.R.Rack c.args.rack.now))
+    (snapshot c.prepare_slot.new.array.member (told g.R.Rack c.prepare_slot.new.rack))
+    (snapshot c.admit_slot.new.self.member (told g.R.Rack c.admit_slot.new.rack)) (Ok tt)
+    (rw c.forget.ensures at c.in_ok-is_free.ensures.free) (rw c.forget.ensures at c.in_ok-prepare_slot.ensures.does)
+    (c.in_ok-admit_slot.ensures.does c.prepare_slot.ensures.going)

@@ -9,7 +9,7 @@ use Rattle.stair_member.specs.declared.why.Why.{Why}
 use Rattle.stair_state.specs.Blocks.{AreOfOneStripe, with_block, zero_block, zero_blocks}
 use Rattle.stair_state.specs.State.{BlocksAre, Content, State, created_state, first_seats}
 use Rattle.stair_array.specs.Examples.{all_but, doubtful}
-use Rattle.stair_session.specs.SeatSteps.{EachMayDrop, SeatGoes}
+use Rattle.stair_invariant.specs.SeatSteps.{EachMayDrop, SeatGoes}
 use Rattle.stair_array.specs.Machine.{Answer, AreKnown, CutWithin, HoldsAfter, InDoubt, LookAtSeats, Made, MayBeCut, MayBegin, OutOfRange, PassesTests, ReadBlock, Recover, Row, SeatsAfter, SetFrozen, SetLabel, Step, TooFew, WasBegun, write_block}
 use Rattle.stair_array.proofs.machine.machine_laws.Goals as goal
 

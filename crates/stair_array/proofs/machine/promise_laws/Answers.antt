@@ -3,10 +3,10 @@ use Rattle.std.proofs.Common.{◌≡◌, List, None, inl, inr, ap, subst}
 use Rattle.std.proofs.lemmas.Bool.{false≢true}
 use Rattle.std.specs.Prelude.{IsSome}
 use Rattle.stair_state.specs.State.{Content}
-use Rattle.stair_session.specs.Session.{ArrayState}
+use Rattle.stair_invariant.specs.Session.{ArrayState}
 use Rattle.stair_rack.specs.declared.watcher.Event.{Event}
 use Rattle.stair_array.specs.Machine.{Answer, LookAtSeats, ReadBlock, RebuildNext, Recover, ReplaceSlot, ScrubStripe, SetFrozen, SetLabel, Step, WriteBlocks}
-use Rattle.stair_array.specs.Promise.{DoesStep, Opened, Seen, Session, StartsFrom}
+use Rattle.stair_array.specs.Promise.{DoesStep, Opened, Seen, Phase, StartsFrom}
 use Rattle.stair_array.proofs.machine.promise_laws.Goals as goal
 
 -- no step starts from an array that was stopped
@@ -25,7 +25,7 @@ does_nothing : (step : Step) (answer : Answer step) (events : List Event) (x y :
     → x.session ≡ Opened a → IsSome a.stopped → y ≡ x
 does_nothing step answer events x y a (inl performs) is stopped =
     let none : a.stopped ≡ None =
-    starts_unstopped step performs.was a (subst (λ (session : Session). StartsFrom step performs.was session) is performs.starts) in
+    starts_unstopped step performs.was a (subst (λ (session : Phase). StartsFrom step performs.was session) is performs.starts) in
     absurd (false≢true (subst IsSome none stopped))
 does_nothing step answer events x y a (inr stopped) is some = stopped.same
 

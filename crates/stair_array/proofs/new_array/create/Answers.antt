@@ -3,7 +3,7 @@ use Rattle.std.proofs.Common.{inl, refl, arith}
 use Rattle.std.proofs.lemmas.Result.{err_from_is_err_and, on_ok_weaker}
 use Rattle.stair_rack.proofs.MomentLemmas.{ran_any, ran_join}
 use Rattle.stair_rack.proofs.StretchLemmas.{each_join}
-use Rattle.stair_rack.specs.Telling.{IsLater, Telling}
+use Rattle.stair_rack.specs.RackState.{IsLater, RackState}
 use Rattle.stair_rack.specs.Told.{told}
 use Rattle.stair_array.specs.Look.{IsLook}
 use Rattle.stair_array.specs.Looking.{IsNotCreated}
@@ -13,13 +13,13 @@ use Rattle.stair_array.proofs.CreatesLemmas.{ends_so, is_made, not_created}
 use Rattle.stair_array.proofs.DeviceLemmas.{making_no_attach}
 use Rattle.stair_array.proofs.EnrolLemmas.{in_turn_then}
 use Rattle.stair_array.proofs.LookLemmas.{taken_on}
-use Rattle.stair_rack.proofs.TellingLemmas.{later_join, later_none}
+use Rattle.stair_rack.proofs.RackStateLemmas.{later_join, later_none}
 use Rattle.stair_array.proofs.new_array.create.Goals as goal
 
 -- a slot was refused before anything was written
 pub returns-in_err-look_at_all : goal.returns-in_err-look_at_all
 returns-in_err-look_at_all g c =
-    let tell : g.row.R.Denot → Telling =
+    let tell : g.row.R.Denot → RackState =
     λ rack. told g.R.Rack rack in
     let of = c.args.geometry.now in
     let later : IsLater (tell c.args.rack.now) (tell c.look_at_all.new.rack) =
@@ -33,7 +33,7 @@ returns-in_err-look_at_all g c =
 -- a slot was gone while the devices were laid out
 pub returns-in_err-lay_out : goal.returns-in_err-lay_out
 returns-in_err-lay_out g c =
-    let tell : g.row.R.Denot → Telling =
+    let tell : g.row.R.Denot → RackState =
     λ rack. told g.R.Rack rack in
     let of = c.args.geometry.now in
     let old = tell c.args.rack.now in
@@ -57,7 +57,7 @@ returns-in_err-lay_out g c =
 
 pub returns : goal.returns
 returns g c =
-    let tell : g.row.R.Denot → Telling =
+    let tell : g.row.R.Denot → RackState =
     λ rack. told g.R.Rack rack in
     let of = c.args.geometry.now in
     let old = tell c.args.rack.now in

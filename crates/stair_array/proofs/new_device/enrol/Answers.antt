@@ -21,21 +21,21 @@ returns-then-eq-clause-gone g c is =
     place_gone c.args.array.now.geometry c.args.slot 0 c.write_super-block.result c.write_through.result (told g.R.Rack c.args.rack.now)
     (told g.R.Rack c.args.rack.now)
     (told g.R.Rack c.write_through.new.rack) (omega arith) gone (NoneFalls-same _ _) c.write_through.ensures.counts (c.write_through.ensures.gone gone)
-    (λ honest. ran_none _) c.write_through.ensures.told
+    (λ honest. ran_none _) c.write_through.ensures.does
 
 pub returns-then-eq-clause-ran : goal.returns-then-eq-clause-ran
 returns-then-eq-clause-ran g c honest =
     let text = first_text c.args.array.now c.args.slot _ c.write_super-block.result c.requires.first c.write_super-block.ensures.text c.new.ensures in
     of_place c.args.array.now.geometry (omega arith)
     (place_ran c.args.array.now.geometry c.args.slot 0 c.write_super-block.result c.write_through.result
-    (first_sector c.args.array.now.geometry c.args.slot 0 c.write_super-block.result (omega arith) text) (c.write_through.ensures.told honest))
+    (first_sector c.args.array.now.geometry c.args.slot 0 c.write_super-block.result (omega arith) text) (c.write_through.ensures.does honest))
 
 pub returns-then-eq-clause-in_turn : goal.returns-then-eq-clause-in_turn
 returns-then-eq-clause-in_turn g c honest =
     let text = first_text c.args.array.now c.args.slot _ c.write_super-block.result c.requires.first c.write_super-block.ensures.text c.new.ensures in
     first_in_turn c.args.array.now.geometry
     (place_ran c.args.array.now.geometry c.args.slot 0 c.write_super-block.result c.write_through.result
-    (first_sector c.args.array.now.geometry c.args.slot 0 c.write_super-block.result (omega arith) text) (c.write_through.ensures.told honest))
+    (first_sector c.args.array.now.geometry c.args.slot 0 c.write_super-block.result (omega arith) text) (c.write_through.ensures.does honest))
 
 pub returns-clause-made : goal.returns-clause-made
 returns-clause-made g c honest done' =
@@ -43,7 +43,7 @@ returns-clause-made g c honest done' =
     let text = first_text c.args.array.now c.args.slot _ c.write_super-block.result c.requires.first c.write_super-block.ensures.text c.new.ensures in
     places_made c.args.array.now.geometry c.args.slot c.write_super-block.result c.write_through.result c.write_through-2.result
     (g.R.Rack.history c.args.rack.now) (g.R.Rack.history c.write_through.new.rack) (g.R.Rack.history c.write_through-2.new.rack) text done done'
-    (c.write_through.ensures.told honest) (c.write_through-2.ensures.told honest)
+    (c.write_through.ensures.does honest) (c.write_through-2.ensures.does honest)
 
 pub returns-clause-gone : goal.returns-clause-gone
 returns-clause-gone g c gone =
@@ -54,8 +54,8 @@ returns-clause-gone g c gone =
     (λ honest.
     of_place c.args.array.now.geometry (omega arith)
     (place_ran c.args.array.now.geometry c.args.slot 0 c.write_super-block.result c.write_through.result
-    (first_sector c.args.array.now.geometry c.args.slot 0 c.write_super-block.result (omega arith) text) (c.write_through.ensures.told honest)))
-    c.write_through-2.ensures.told
+    (first_sector c.args.array.now.geometry c.args.slot 0 c.write_super-block.result (omega arith) text) (c.write_through.ensures.does honest)))
+    c.write_through-2.ensures.does
 
 pub returns-clause-ran : goal.returns-clause-ran
 returns-clause-ran g c honest =
@@ -63,10 +63,10 @@ returns-clause-ran g c honest =
     ran_join
     (of_place c.args.array.now.geometry (omega arith)
     (place_ran c.args.array.now.geometry c.args.slot 0 c.write_super-block.result c.write_through.result
-    (first_sector c.args.array.now.geometry c.args.slot 0 c.write_super-block.result (omega arith) text) (c.write_through.ensures.told honest)))
+    (first_sector c.args.array.now.geometry c.args.slot 0 c.write_super-block.result (omega arith) text) (c.write_through.ensures.does honest)))
     (of_place c.args.array.now.geometry (omega arith)
     (place_ran c.args.array.now.geometry c.args.slot 1 c.write_super-block.result c.write_through-2.result
-    (first_sector c.args.array.now.geometry c.args.slot 1 c.write_super-block.result (omega arith) text) (c.write_through-2.ensures.told honest)))
+    (first_sector c.args.array.now.geometry c.args.slot 1 c.write_super-block.result (omega arith) text) (c.write_through-2.ensures.does honest)))
 
 pub returns-clause-in_turn : goal.returns-clause-in_turn
 returns-clause-in_turn g c honest =
@@ -74,4 +74,4 @@ returns-clause-in_turn g c honest =
     let text = first_text c.args.array.now c.args.slot _ c.write_super-block.result c.requires.first c.write_super-block.ensures.text c.new.ensures in
     places_in_turn c.args.array.now.geometry c.args.slot c.write_super-block.result c.write_through.result c.write_through-2.result
     (g.R.Rack.history c.args.rack.now) (g.R.Rack.history c.write_through.new.rack) (g.R.Rack.history c.write_through-2.new.rack) text done
-    (c.write_through.ensures.told honest) (c.write_through-2.ensures.told honest)
+    (c.write_through.ensures.does honest) (c.write_through-2.ensures.does honest)

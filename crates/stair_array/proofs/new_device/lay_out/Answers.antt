@@ -21,7 +21,7 @@ returns-in_err-none_gone-clause-gone g c =
       (c.slots_of-slots.ensures.are j).0 (c.write_all.ensures.gone j lost).0,
       laid_gone of c.slots_of-slots.result c.write_all.result gate_sector c.closed_gate.result (told g.R.Rack c.args.rack.now)
           (told g.R.Rack c.args.rack.now) (told g.R.Rack c.write_all.new.rack) (laid_none _ _ _) refl (omega arith) (omega arith)
-          (λ i. c.closed_gate.ensures ∙ sym (created_gate of i)) c.write_all.ensures.counts c.write_all.ensures.told j lost
+          (λ i. c.closed_gate.ensures ∙ sym (created_gate of i)) c.write_all.ensures.counts c.write_all.ensures.does j lost
           (c.write_all.ensures.gone j lost).1,
     )))
 
@@ -31,13 +31,13 @@ returns-in_err-none_gone-clause-ran g c honest =
     making_within of (λ j on. (c.slots_of-slots.ensures.are j).0 on) (λ k is. is)
     (laid_gone_ran of c.slots_of-slots.result c.write_all.result gate_sector c.closed_gate.result (told g.R.Rack c.args.rack.now)
     (told g.R.Rack c.args.rack.now) (told g.R.Rack c.write_all.new.rack) (laid_none _ _ _) refl (omega arith) (omega arith)
-    (λ i. c.closed_gate.ensures ∙ sym (created_gate of i)) c.write_all.ensures.counts c.write_all.ensures.told honest)
+    (λ i. c.closed_gate.ensures ∙ sym (created_gate of i)) c.write_all.ensures.counts c.write_all.ensures.does honest)
 
 pub loop-sector-init : goal.loop-sector-init
 loop-sector-init g c =
     laid_more c.args.geometry.now c.slots_of-slots.result c.write_all.result gate_sector c.closed_gate.result (told g.R.Rack c.args.rack.now)
     (told g.R.Rack c.args.rack.now) (told g.R.Rack c.write_all.new.rack) (laid_none _ _ _) refl (omega arith) (omega arith)
-    (λ i. c.closed_gate.ensures ∙ sym (created_gate c.args.geometry.now i)) c.write_all.ensures.counts c.write_all.ensures.told
+    (λ i. c.closed_gate.ensures ∙ sym (created_gate c.args.geometry.now i)) c.write_all.ensures.counts c.write_all.ensures.does
     c.in_ok-none_gone.ensures.none
 
 pub returns-in_err-none_gone-2-clause-gone : goal.returns-in_err-none_gone-2-clause-gone
@@ -52,7 +52,7 @@ returns-in_err-none_gone-2-clause-gone g c =
       laid_gone of c.slots_of-slots.result c.write_all-in-loop-sector.result c.loop-sector.sector zero_block (told g.R.Rack c.args.rack.now)
           (told g.R.Rack c.loop-sector.rack) (told g.R.Rack c.write_all-in-loop-sector.new.rack) c.loop-sector.invariant refl (omega arith)
           (rw c.need-sector-end.ensures.value at c.loop-sector-test.true) (λ i. sym (created_behind of i c.loop-sector.sector (omega arith)))
-          c.write_all-in-loop-sector.ensures.counts c.write_all-in-loop-sector.ensures.told j lost (c.write_all-in-loop-sector.ensures.gone j lost).1,
+          c.write_all-in-loop-sector.ensures.counts c.write_all-in-loop-sector.ensures.does j lost (c.write_all-in-loop-sector.ensures.gone j lost).1,
     )))
 
 pub returns-in_err-none_gone-2-clause-ran : goal.returns-in_err-none_gone-2-clause-ran
@@ -62,7 +62,7 @@ returns-in_err-none_gone-2-clause-ran g c honest =
     (laid_gone_ran of c.slots_of-slots.result c.write_all-in-loop-sector.result c.loop-sector.sector zero_block (told g.R.Rack c.args.rack.now)
     (told g.R.Rack c.loop-sector.rack) (told g.R.Rack c.write_all-in-loop-sector.new.rack) c.loop-sector.invariant refl (omega arith)
     (rw c.need-sector-end.ensures.value at c.loop-sector-test.true) (λ i. sym (created_behind of i c.loop-sector.sector (omega arith)))
-    c.write_all-in-loop-sector.ensures.counts c.write_all-in-loop-sector.ensures.told honest)
+    c.write_all-in-loop-sector.ensures.counts c.write_all-in-loop-sector.ensures.does honest)
 
 pub loop-sector-preserved : goal.loop-sector-preserved
 loop-sector-preserved g c =
@@ -70,7 +70,7 @@ loop-sector-preserved g c =
     (told g.R.Rack c.args.rack.now) (told g.R.Rack c.loop-sector.rack) (told g.R.Rack c.write_all-in-loop-sector.new.rack) c.loop-sector.invariant
     refl (omega arith) (rw c.need-sector-end.ensures.value at c.loop-sector-test.true)
     (λ i. sym (created_behind c.args.geometry.now i c.loop-sector.sector (omega arith))) c.write_all-in-loop-sector.ensures.counts
-    c.write_all-in-loop-sector.ensures.told c.in_ok-none_gone-2.ensures.none
+    c.write_all-in-loop-sector.ensures.does c.in_ok-none_gone-2.ensures.none
 
 pub returns-clause-made : goal.returns-clause-made
 returns-clause-made g c honest =
@@ -81,7 +81,7 @@ returns-clause-made g c honest =
     on_ok_weaker c.none_gone-2.result
     (λ none j below.
     laid_made of c.slots_of-slots.result c.sync_all.result (told g.R.Rack c.args.rack.now) (told g.R.Rack c.loop-sector.rack)
-    (told g.R.Rack c.sync_all.new.rack) (rw all at c.loop-sector.invariant) refl c.sync_all.ensures.told none honest j
+    (told g.R.Rack c.sync_all.new.rack) (rw all at c.loop-sector.invariant) refl c.sync_all.ensures.does none honest j
     ((c.slots_of-slots.ensures.are j).1 below)) c.none_gone-2.ensures.none
 
 pub returns-clause-gone : goal.returns-clause-gone
@@ -97,7 +97,7 @@ returns-clause-gone g c =
     (λ j lost. (
       (c.slots_of-slots.ensures.are j).0 (c.sync_all.ensures.gone j lost).0,
       laid_unsynced of c.slots_of-slots.result c.sync_all.result (told g.R.Rack c.args.rack.now) (told g.R.Rack c.loop-sector.rack)
-          (told g.R.Rack c.sync_all.new.rack) (rw all at c.loop-sector.invariant) refl c.sync_all.ensures.told j lost
+          (told g.R.Rack c.sync_all.new.rack) (rw all at c.loop-sector.invariant) refl c.sync_all.ensures.does j lost
           (c.sync_all.ensures.gone j lost).1 c.sync_all.ensures.counts,
     )))
 
@@ -109,4 +109,4 @@ returns-clause-ran g c honest =
     c.loop-sector-test.false in
     making_within of (λ j on. (c.slots_of-slots.ensures.are j).0 on) (λ k is. is)
     (laid_ran of c.slots_of-slots.result c.sync_all.result (told g.R.Rack c.args.rack.now) (told g.R.Rack c.loop-sector.rack)
-    (told g.R.Rack c.sync_all.new.rack) (rw all at c.loop-sector.invariant) refl c.sync_all.ensures.told honest)
+    (told g.R.Rack c.sync_all.new.rack) (rw all at c.loop-sector.invariant) refl c.sync_all.ensures.does honest)

@@ -1,5 +1,5 @@
 -- The laws are lemmas.
-use Rattle.stair_session.specs.Returning.{NoneReturns}
+use Rattle.stair_invariant.specs.Returning.{NoneReturns}
 use Rattle.stair_array.specs.Machine.{ReadBlock}
 use Rattle.stair_array.proofs.NoneReturnsLemmas.{reads_lead, begun_history}
 use Rattle.stair_array.proofs.ReadDoneLemmas.{none_refused, promise}

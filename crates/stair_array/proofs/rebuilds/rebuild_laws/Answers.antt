@@ -1,5 +1,5 @@
 -- The laws are lemmas.
-use Rattle.stair_session.specs.Returning.{NoneReturns}
+use Rattle.stair_invariant.specs.Returning.{NoneReturns}
 use Rattle.stair_array.specs.Machine.{RebuildNext}
 use Rattle.stair_array.proofs.MendsLeadLemmas.{beside_leads, promotions_lead}
 use Rattle.stair_array.proofs.NoneReturnsLemmas.{begun_history, reads_lead}

@@ -1,7 +1,7 @@
 -- The laws are lemmas.
 use Rattle.stair_array.proofs.OpeningsLeadLemmas.{openings_lead}
 use Rattle.stair_array.proofs.RecoverLemmas.{again, only_spent, promise}
-use Rattle.stair_session.specs.Returning.{NoneReturns}
+use Rattle.stair_invariant.specs.Returning.{NoneReturns}
 use Rattle.stair_array.proofs.recovered.recovered_laws.Goals as goal
 
 pub returns : goal.returns

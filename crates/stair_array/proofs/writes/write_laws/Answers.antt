@@ -1,5 +1,5 @@
 -- The laws are lemmas.
-use Rattle.stair_session.specs.Returning.{NoneReturns}
+use Rattle.stair_invariant.specs.Returning.{NoneReturns}
 use Rattle.stair_array.specs.Machine.{WriteBlocks}
 use Rattle.stair_array.proofs.NoneReturnsLemmas.{reads_lead, redos_lead, begun_history}
 use Rattle.stair_array.proofs.WriteDoneLemmas.{none_refused, promise}

@@ -3,10 +3,10 @@ use Rattle.std.proofs.Common.{◌≡◌, ℕ, ◌%◌, ◌<◌, rules, ap, ◌�
 use Rattle.std.proofs.Math.Nat.{mod-eq_of_lt}
 use Rattle.stair_model.specs.Cell.{Data, cell_at}
 use Rattle.stair_model.specs.Geometry.{data_cells}
-use Rattle.stair_story.specs.Outside.{source_view}
+use Rattle.stair_command.specs.Outside.{source_view}
 use Rattle.stair_engine.specs.Taking.{TakesBlocksTo}
 use Rattle.stair_engine.proofs.BlockLaws.{TakesBlocksTo-more, TakesBlocksTo-none, took_blocks}
-use Rattle.stair_story.proofs.IntakeLaws.{CutsShort-later, if_err_of}
+use Rattle.stair_command.proofs.IntakeLaws.{CutsShort-later, if_err_of}
 use Rattle.stair_engine.proofs.blocks.take_blocks.Goals as goal
 
 pub fill-requires-clause-room : goal.fill-requires-clause-room

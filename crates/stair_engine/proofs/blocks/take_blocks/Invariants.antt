@@ -1,6 +1,6 @@
 -- The blocks so far were taken from the source.
 use Rattle.stair_model.specs.Stripe.{IsStripeOf, IsWellFormed}
-use Rattle.stair_story.specs.Outside.{source_view}
+use Rattle.stair_command.specs.Outside.{source_view}
 use Rattle.stair_engine.specs.Taking.{TakesBlocksTo}
 use Rattle.stair_engine.proofs.blocks.take_blocks.Given as goal
 

@@ -5,9 +5,9 @@ use Rattle.std.specs.List.{concat}
 use Rattle.std.proofs.lemmas.List.{take_all}
 use Rattle.std.proofs.KnownBytes.{Appends-nil, Appends-trans}
 use Rattle.stair_rack.specs.Count.{kept-Rose}
-use Rattle.stair_story.specs.Outside.{sink_view}
+use Rattle.stair_command.specs.Outside.{sink_view}
 use Rattle.stair_engine.proofs.CellLaws.{length-cells, puts_cell, puts_part, row_more}
-use Rattle.stair_story.proofs.StreamLaws.{PutsAll-err}
+use Rattle.stair_command.proofs.StreamLaws.{PutsAll-err}
 use Rattle.stair_engine.proofs.cells.put_stripe.Goals as goal
 
 pub returns-in_err-put_all-clause-puts : goal.returns-in_err-put_all-clause-puts

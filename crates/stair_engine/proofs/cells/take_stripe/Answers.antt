@@ -1,8 +1,8 @@
 -- No cell, one cell more, and a whole row; a piece that was cut short after the cells so far; and all cells.
 use Rattle.std.proofs.Common.{◌≡◌, ℕ, ◌+◌, ◌*◌, ◌<◌, ap, arith, length, rules, subst}
-use Rattle.stair_story.specs.Outside.{source_view}
+use Rattle.stair_command.specs.Outside.{source_view}
 use Rattle.stair_engine.proofs.CellLaws.{HasTaken, HasTaken-all, HasTaken-more, HasTaken-none, row_more}
-use Rattle.stair_story.proofs.IntakeLaws.{CutsShort-later, if_err_of}
+use Rattle.stair_command.proofs.IntakeLaws.{CutsShort-later, if_err_of}
 use Rattle.stair_engine.proofs.cells.take_stripe.Goals as goal
 use Rattle.stair_model.proofs.StripeLaws.{number_in}
 

@@ -1,6 +1,6 @@
 -- The cells of the rows so far, and of the row so far, were taken from the source.
 use Rattle.std.proofs.Common.{◌+◌, ◌*◌}
-use Rattle.stair_story.specs.Outside.{source_view}
+use Rattle.stair_command.specs.Outside.{source_view}
 use Rattle.stair_engine.proofs.CellLaws.{HasTaken}
 use Rattle.stair_engine.proofs.cells.take_stripe.Given as goal
 

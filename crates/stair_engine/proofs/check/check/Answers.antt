@@ -1,9 +1,9 @@
--- Each return, by its deeds.
+-- Each return, by its items.
 use Rattle.std.proofs.Common.{[], refl, rules}
 use Rattle.std.specs.Prelude.{IsNone}
-use Rattle.stair_story.specs.Answer.{codeword_line}
+use Rattle.stair_command.specs.Answer.{codeword_line}
 use Rattle.stair_status.specs.declared.status.Status.TheVariants.{NotCodeword}
-use Rattle.stair_story.specs.Outside.{views}
+use Rattle.stair_command.specs.Outside.{views}
 use Rattle.stair_conf.specs.declared.job.StripeCommand.TheVariants.{Check}
 use Rattle.stair_engine.proofs.check.check.Goals as goal
 use Rattle.stair_engine.proofs.StripeLaws.{after_memory, input_refused, judged_put, judged_unput, no_memory, told_judged}

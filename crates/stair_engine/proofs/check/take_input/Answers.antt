@@ -1,11 +1,11 @@
 -- All cells were taken, and then the end was looked for.
 use Rattle.std.proofs.Common.{arith, refl}
 use Rattle.std.specs.List.{concat}
-use Rattle.stair_story.specs.Answer.{cell_bytes}
-use Rattle.stair_story.specs.Outside.{source_view}
+use Rattle.stair_command.specs.Answer.{cell_bytes}
+use Rattle.stair_command.specs.Outside.{source_view}
 use Rattle.stair_engine.proofs.AnswerLaws.{HasBytes-cells, some_cells}
 use Rattle.stair_engine.proofs.CellLaws.{few_cells, has_room, length-cell_bytes}
-use Rattle.stair_story.proofs.IntakeLaws.{all_counted, whole_cut, whole_end, whole_handed_on}
+use Rattle.stair_command.proofs.IntakeLaws.{all_counted, whole_cut, whole_end, whole_handed_on}
 use Rattle.stair_engine.proofs.check.take_input.Goals as goal
 
 pub returns-in_err-take_stripe-clause-takes : goal.returns-in_err-take_stripe-clause-takes

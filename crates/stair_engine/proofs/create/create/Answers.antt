@@ -1,14 +1,14 @@
--- Each return, by its deeds.
+-- Each return, by its items.
 use Rattle.std.proofs.Common.{◌≡◌, ℕ, List, Ok, Err, rules, subst}
-use Rattle.stair_story.specs.Means.{Holds}
-use Rattle.stair_story.specs.Outside.{views}
-use Rattle.stair_engine.specs.Plans.{created_line}
-use Rattle.stair_story.specs.Rack.{rack_view}
-use Rattle.stair_story.specs.Story.{HasPut, IsPart}
-use Rattle.stair_story.specs.declared.fault.Fault.TheVariants.{Memory, Output}
+use Rattle.stair_command.specs.Executes.{Holds}
+use Rattle.stair_command.specs.Outside.{views}
+use Rattle.stair_engine.specs.Programs.{created_line}
+use Rattle.stair_command.specs.Rack.{rack_view}
+use Rattle.stair_command.specs.Trace.{HasPut, IsPart}
+use Rattle.stair_command.specs.declared.fault.Fault.TheVariants.{Memory, Output}
 use Rattle.stair_engine.proofs.StepLaws.{makes, reads_text, takes_text, text_faulty, text_refused}
 use Rattle.stair_engine.proofs.create.create.Goals as goal
-use Rattle.stair_story.proofs.RackLaws.{over_cannot_put, over_hands_on, over_puts, over_runs_out, over_then}
+use Rattle.stair_command.proofs.RackLaws.{over_cannot_put, over_hands_on, over_puts, over_runs_out, over_then}
 
 pub returns-in_err-length : goal.returns-in_err-length
 returns-in_err-length g c counter =

@@ -1,9 +1,9 @@
--- The stripe is of the code's geometry; each return, by its deeds.
+-- The stripe is of the code's geometry; each return, by its items.
 use Rattle.std.proofs.Common.{subst, sym}
 use Rattle.stair_model.specs.Geometry.{Geometry}
 use Rattle.stair_model.specs.Stripe.{IsStripeOf}
 use Rattle.std.specs.List.{concat}
-use Rattle.stair_story.specs.Outside.{views}
+use Rattle.stair_command.specs.Outside.{views}
 use Rattle.stair_conf.specs.declared.job.StripeCommand.TheVariants.{Encode}
 use Rattle.stair_engine.proofs.AnswerLaws.{judged_blocks}
 use Rattle.stair_engine.proofs.encode.encode_by.Goals as goal

@@ -2,11 +2,11 @@
 use Rattle.std.proofs.Common.{◌≤◌, arith}
 use Rattle.std.specs.List.{concat}
 use Rattle.stair_model.specs.Geometry.{data_cells}
-use Rattle.stair_story.specs.Answer.{block_bytes}
-use Rattle.stair_story.specs.Outside.{source_view}
+use Rattle.stair_command.specs.Answer.{block_bytes}
+use Rattle.stair_command.specs.Outside.{source_view}
 use Rattle.stair_engine.proofs.BlockLaws.{HoldsInput-all, length-blocks}
 use Rattle.stair_engine.proofs.CellLaws.{has_room}
-use Rattle.stair_story.proofs.IntakeLaws.{all_counted, whole_cut, whole_end, whole_handed_on}
+use Rattle.stair_command.proofs.IntakeLaws.{all_counted, whole_cut, whole_end, whole_handed_on}
 use Rattle.stair_engine.proofs.encode.take_input.Goals as goal
 
 pub returns-in_err-take_blocks-clause-takes : goal.returns-in_err-take_blocks-clause-takes

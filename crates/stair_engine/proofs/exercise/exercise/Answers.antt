@@ -1,13 +1,13 @@
 -- A session in which so many steps are taken.
 use Rattle.std.proofs.Common.{◌∙◌, arith}
 use Rattle.stair_array.specs.Promise.{Opened}
-use Rattle.stair_story.specs.Devices.{device_view, devices}
-use Rattle.stair_story.specs.Fault.{status_of_fault}
-use Rattle.stair_story.specs.Outside.{outside, sink_alone}
-use Rattle.stair_story.specs.Plan.{Over, Put}
-use Rattle.stair_story.specs.Rack.{rack_view}
+use Rattle.stair_command.specs.Devices.{device_view, devices}
+use Rattle.stair_command.specs.Fault.{status_of_fault}
+use Rattle.stair_command.specs.Outside.{outside, sink_alone}
+use Rattle.stair_command.specs.Program.{Over, Put}
+use Rattle.stair_command.specs.Rack.{rack_view}
 use Rattle.stair_status.specs.declared.status.Status.TheVariants.{Done}
-use Rattle.stair_story.proofs.DeviceLaws.{whole_hands_on}
+use Rattle.stair_command.proofs.DeviceLaws.{whole_hands_on}
 use Rattle.stair_engine.specs.Exercise.{exercise_steps, exercised_line}
 use Rattle.stair_engine.proofs.ExercisedLaws.{few_asked, many_asked, tells_steps}
 use Rattle.stair_engine.proofs.SessionLaws.{ended, ends_with, ends_with_line}

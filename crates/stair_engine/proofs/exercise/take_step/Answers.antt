@@ -2,8 +2,8 @@
 use Rattle.std.proofs.Common.{arith, rules}
 use Rattle.stair_array.specs.Promise.{Opened}
 use Rattle.stair_array.proofs.WritingLemmas.{one_block}
-use Rattle.stair_story.specs.Devices.{device_view, devices}
-use Rattle.stair_story.specs.Rack.{rack_view}
+use Rattle.stair_command.specs.Devices.{device_view, devices}
+use Rattle.stair_command.specs.Rack.{rack_view}
 use Rattle.stair_engine.proofs.ExercisedLaws.{read_done, read_refused, scrub_done, scrub_refused, write_done, write_refused}
 use Rattle.stair_engine.proofs.exercise.take_step.Goals as goal
 

@@ -1,11 +1,11 @@
 -- One step after the other.
 use Rattle.stair_array.specs.Promise.{Opened}
-use Rattle.stair_story.specs.Comes.{ComesTo}
-use Rattle.stair_story.specs.Devices.{device_view, devices}
-use Rattle.stair_story.specs.Fault.{status_of_fault}
-use Rattle.stair_story.specs.Plan.{Plan, Over}
-use Rattle.stair_story.specs.Rack.{rack_view}
-use Rattle.stair_story.proofs.IntakeLaws.{if_err_of}
+use Rattle.stair_command.specs.Comes.{ExecutesOnDevices}
+use Rattle.stair_command.specs.Devices.{device_view, devices}
+use Rattle.stair_command.specs.Fault.{status_of_fault}
+use Rattle.stair_command.specs.Program.{Program, Over}
+use Rattle.stair_command.specs.Rack.{rack_view}
+use Rattle.stair_command.proofs.IntakeLaws.{if_err_of}
 use Rattle.stair_engine.specs.declared.exercise.Exercised.{Exercised}
 use Rattle.stair_engine.specs.Exercise.{exercises, none_exercised}
 use Rattle.stair_engine.proofs.ExercisedLaws.{not_taken, one_taken}
@@ -18,8 +18,8 @@ returns-in_err-came-clause-refused g c =
     let first = devices c.args.rack.now (Opened c.args.array.now) c.args.watchers.now.items in
     let last = devices c.take_step-taken.new.rack (Opened c.take_step-taken.new.array) c.take_step-taken.new.watchers.items in
     if_err_of c.from_residual.result c.in_err-came.field-0.0
-    (λ fault. (k : Exercised → Plan)
-    → ComesTo view (exercises of c.args.steps c.args.first none_exercised k) (Over (status_of_fault fault)) first last)
+    (λ fault. (k : Exercised → Program)
+    → ExecutesOnDevices view (exercises of c.args.steps c.args.first none_exercised k) (Over (status_of_fault fault)) first last)
     c.from_residual.ensures.1
     (not_taken view of c.args.first c.args.steps c.loop.counter c.loop.number c.next_number-number.result c.loop.came first c.loop.rack
     c.take_step-taken.new.rack c.loop.array c.take_step-taken.new.array c.loop.watchers.items c.take_step-taken.new.watchers.items c.loop.invariant

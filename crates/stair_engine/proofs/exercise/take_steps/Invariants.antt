@@ -1,7 +1,7 @@
 -- So many steps were taken.
 use Rattle.stair_array.specs.Promise.{Opened}
-use Rattle.stair_story.specs.Devices.{device_view, devices}
-use Rattle.stair_story.specs.Rack.{rack_view}
+use Rattle.stair_command.specs.Devices.{device_view, devices}
+use Rattle.stair_command.specs.Rack.{rack_view}
 use Rattle.stair_engine.proofs.ExercisedLaws.{ExercisedSoFar}
 use Rattle.stair_engine.proofs.exercise.take_steps.Given as goal
 

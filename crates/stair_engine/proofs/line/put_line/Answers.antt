@@ -1,15 +1,15 @@
 -- A line that was put out, or a part of it.
 use Rattle.std.proofs.Common.{◌≡◌, Err, Result, refl, subst, sym}
-use Rattle.stair_story.specs.Fault.{status_of}
-use Rattle.stair_story.specs.Means.{Means}
-use Rattle.stair_story.specs.Outside.{outside, sink_alone}
-use Rattle.stair_story.specs.Plan.{Over, Put}
-use Rattle.stair_story.specs.Story.{HasPut, PutFailed}
-use Rattle.stair_story.specs.declared.fault.Fault.{Fault}
-use Rattle.stair_story.specs.declared.fault.Fault.TheVariants.{Output}
+use Rattle.stair_command.specs.Fault.{status_of}
+use Rattle.stair_command.specs.Executes.{Executes}
+use Rattle.stair_command.specs.Outside.{outside, sink_alone}
+use Rattle.stair_command.specs.Program.{Over, Put}
+use Rattle.stair_command.specs.Trace.{HasPut, PutFailed}
+use Rattle.stair_command.specs.declared.fault.Fault.{Fault}
+use Rattle.stair_command.specs.declared.fault.Fault.TheVariants.{Output}
 use Rattle.stair_status.specs.declared.status.Status.{Status}
 use Rattle.stair_status.specs.declared.status.Status.TheVariants.{Done, OutputFault}
-use Rattle.stair_story.proofs.PlanLaws.{does}
+use Rattle.stair_command.proofs.ProgramLaws.{does}
 use Rattle.stair_engine.proofs.StepLaws.{handed_on}
 use Rattle.stair_engine.proofs.line.put_line.Goals as goal
 
@@ -21,7 +21,7 @@ returns-in_err-put_all g c =
     handed_on c.from_residual.result Output (rw c.in_err-put_all.ensures.failed at c.from_residual.ensures.1) in
     record {
       means = λ counter.
-          subst (λ (r : Result Status Fault). Means streams (Put c.args.line.now (Over Done)) (Over (status_of r)) (outside tt c.args.output.now counter)
+          subst (λ (r : Result Status Fault). Executes streams (Put c.args.line.now (Over Done)) (Over (status_of r)) (outside tt c.args.output.now counter)
           (outside tt c.put_all.new.output counter)) (sym same)
           (does streams (PutFailed failed.0) (Put c.args.line.now (Over Done)) (Over OutputFault) (outside tt c.args.output.now counter)
           (outside tt c.put_all.new.output counter) (failed.1, refl) refl failed.2 refl);

@@ -2,12 +2,12 @@
 use Rattle.std.proofs.Common.{Bool, List, Some, subst, sym, ℕ}
 use Rattle.stair_array.specs.Promise.{Opened}
 use Rattle.stair_script.specs.declared.line.Line.TheVariants.{Read, Replace, Scrub, Write}
-use Rattle.stair_story.specs.Comes.{ComesTo}
-use Rattle.stair_story.specs.Devices.{device_view, devices, some_left}
-use Rattle.stair_story.specs.Plan.{Plan}
-use Rattle.stair_story.specs.Rack.{rack_view}
+use Rattle.stair_command.specs.Comes.{ExecutesOnDevices}
+use Rattle.stair_command.specs.Devices.{device_view, devices, some_left}
+use Rattle.stair_command.specs.Program.{Program}
+use Rattle.stair_command.specs.Rack.{rack_view}
 use Rattle.stair_engine.proofs.LineStepLaws.{said_done, said_refused}
-use Rattle.stair_engine.specs.Scripts.{admitted_reply, line_plan, replies, wrote_reply}
+use Rattle.stair_engine.specs.Scripts.{admitted_reply, line_program, replies, wrote_reply}
 use Rattle.stair_engine.proofs.lines.do_line.Goals as goal
 
 pub returns-in_err-read_block-in-Read-clause-refused : goal.returns-in_err-read_block-in-Read-clause-refused
@@ -60,8 +60,8 @@ returns-in_ok-write_block-in-Write-clause-done g c =
     let of = c.args.array.now.member.array.geometry in
     let first = devices c.args.rack.now (Opened c.args.array.now) c.args.watchers.now.items in
     let next = devices c.write_block.new.rack (Opened c.write_block.new.array) c.write_block.new.watchers.items in
-    subst (λ (reply : List ℕ). (rest : Bool → Plan)
-    → ComesTo view (line_plan of c.args.said rest) (replies (Some reply) (rest (some_left first.watchers next.watchers))) first next) (sym c.wrote_reply.ensures)
+    subst (λ (reply : List ℕ). (rest : Bool → Program)
+    → ExecutesOnDevices view (line_program of c.args.said rest) (replies (Some reply) (rest (some_left first.watchers next.watchers))) first next) (sym c.wrote_reply.ensures)
     (said_done view of first next c.args.said (Write c.in-Write.block c.in-Write.contents) c.in-Write.is (wrote_reply c.in-Write.block) c.in_ok-write_block-in-Write.ensures.done)
 
 pub returns-in_ok-scrub_stripe-in-Scrub-clause-done : goal.returns-in_ok-scrub_stripe-in-Scrub-clause-done
@@ -78,6 +78,6 @@ returns-in_ok-admit-in-Replace-clause-done g c =
     let of = c.args.array.now.member.array.geometry in
     let first = devices c.args.rack.now (Opened c.args.array.now) c.args.watchers.now.items in
     let next = devices c.admit.new.rack (Opened c.admit.new.array) c.admit.new.watchers.items in
-    subst (λ (reply : List ℕ). (rest : Bool → Plan)
-    → ComesTo view (line_plan of c.args.said rest) (replies (Some reply) (rest (some_left first.watchers next.watchers))) first next) (sym c.admitted_reply.ensures)
+    subst (λ (reply : List ℕ). (rest : Bool → Program)
+    → ExecutesOnDevices view (line_program of c.args.said rest) (replies (Some reply) (rest (some_left first.watchers next.watchers))) first next) (sym c.admitted_reply.ensures)
     (said_done view of first next c.args.said (Replace c.in-Replace.slot) c.in-Replace.is (admitted_reply c.in-Replace.slot) c.in_ok-admit-in-Replace.ensures.done)

@@ -3,9 +3,9 @@ use Rattle.std.proofs.Common.{rules}
 use Rattle.stair_array.specs.Faults.{refusal_for}
 use Rattle.stair_array.specs.Machine.{ReadBlock}
 use Rattle.stair_array.specs.Promise.{Opened}
-use Rattle.stair_story.specs.Devices.{device_view, devices}
-use Rattle.stair_story.specs.Plan.{Put}
-use Rattle.stair_story.specs.Rack.{rack_view}
+use Rattle.stair_command.specs.Devices.{device_view, devices}
+use Rattle.stair_command.specs.Program.{Put}
+use Rattle.stair_command.specs.Rack.{rack_view}
 use Rattle.stair_engine.proofs.LineStepLaws.{line_refused, was_read}
 use Rattle.stair_engine.specs.Scripts.{read_reply}
 use Rattle.stair_engine.proofs.lines.read_block.Goals as goal

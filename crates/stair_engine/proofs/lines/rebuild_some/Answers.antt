@@ -1,8 +1,8 @@
 -- One step after the other.
 use Rattle.std.proofs.Common.{refl, rules}
 use Rattle.stair_array.specs.Promise.{Opened}
-use Rattle.stair_story.specs.Devices.{device_view, devices}
-use Rattle.stair_story.specs.Rack.{rack_view}
+use Rattle.stair_command.specs.Devices.{device_view, devices}
+use Rattle.stair_command.specs.Rack.{rack_view}
 use Rattle.stair_engine.proofs.LineStepLaws.{all_made, none_made, none_more, nothing_made, one_made, same_geometry}
 use Rattle.stair_engine.proofs.lines.rebuild_some.Goals as goal
 

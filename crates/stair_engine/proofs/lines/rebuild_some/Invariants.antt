@@ -1,7 +1,7 @@
 -- So many steps were made.
 use Rattle.stair_array.specs.Promise.{Opened}
-use Rattle.stair_story.specs.Devices.{device_view, devices}
-use Rattle.stair_story.specs.Rack.{rack_view}
+use Rattle.stair_command.specs.Devices.{device_view, devices}
+use Rattle.stair_command.specs.Rack.{rack_view}
 use Rattle.stair_engine.proofs.LineStepLaws.{RebuiltSome}
 use Rattle.stair_engine.proofs.lines.rebuild_some.Given as goal
 

@@ -4,8 +4,8 @@ use Rattle.stair_array.proofs.WritingLemmas.{one_block}
 use Rattle.stair_array.specs.Arrays.{blocks_of}
 use Rattle.stair_array.specs.Faults.{refusal_for}
 use Rattle.stair_array.specs.Promise.{Opened}
-use Rattle.stair_story.specs.Devices.{device_view, devices}
-use Rattle.stair_story.specs.Rack.{rack_view}
+use Rattle.stair_command.specs.Devices.{device_view, devices}
+use Rattle.stair_command.specs.Rack.{rack_view}
 use Rattle.stair_engine.proofs.LineStepLaws.{not_written, was_written}
 use Rattle.stair_engine.proofs.lines.write_block.Goals as goal
 

@@ -1,7 +1,7 @@
 -- One row more; a row that was cut short after the rows so far; and all rows.
 use Rattle.std.proofs.Common.{◌≡◌, ◌<◌, arith, rules, length, length-take}
-use Rattle.stair_story.specs.Outside.{source_view}
-use Rattle.stair_story.proofs.IntakeLaws.{CutsShort-later, if_err_of}
+use Rattle.stair_command.specs.Outside.{source_view}
+use Rattle.stair_command.proofs.IntakeLaws.{CutsShort-later, if_err_of}
 use Rattle.stair_engine.proofs.MapLaws.{HasMapped-all, HasMapped-more, HasMapped-none, row_in_rows}
 use Rattle.stair_engine.proofs.map.take_map.Goals as goal
 

@@ -1,5 +1,5 @@
 -- The rows so far were taken from the source.
-use Rattle.stair_story.specs.Outside.{source_view}
+use Rattle.stair_command.specs.Outside.{source_view}
 use Rattle.stair_engine.proofs.MapLaws.{HasMapped}
 use Rattle.stair_engine.proofs.map.take_map.Given as goal
 

@@ -1,8 +1,8 @@
 -- An opening that was refused, or for which there was no memory.
-use Rattle.stair_story.specs.Devices.{device_view}
-use Rattle.stair_story.specs.Rack.{rack_view}
-use Rattle.stair_story.specs.declared.fault.Fault.TheVariants.{Opening}
-use Rattle.stair_story.proofs.IntakeLaws.{if_err_of}
+use Rattle.stair_command.specs.Devices.{device_view}
+use Rattle.stair_command.specs.Rack.{rack_view}
+use Rattle.stair_command.specs.declared.fault.Fault.TheVariants.{Opening}
+use Rattle.stair_command.proofs.IntakeLaws.{if_err_of}
 use Rattle.stair_engine.specs.Blocks.{IsUnopened}
 use Rattle.stair_engine.proofs.SessionLaws.{unopened_by}
 use Rattle.stair_engine.proofs.open.open.Goals as goal

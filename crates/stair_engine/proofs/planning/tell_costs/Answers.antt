@@ -1,6 +1,6 @@
 -- There was no memory; or what was found is put out.
 use Rattle.std.proofs.Common.{◌∙◌}
-use Rattle.stair_story.specs.Outside.{outside, sink_alone}
+use Rattle.stair_command.specs.Outside.{outside, sink_alone}
 use Rattle.stair_engine.proofs.CostsLaws.{costs_no_memory, costs_put, costs_unput}
 use Rattle.stair_engine.proofs.planning.tell_costs.Goals as goal
 

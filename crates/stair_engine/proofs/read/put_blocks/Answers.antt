@@ -1,10 +1,10 @@
 -- One block after the other.
 use Rattle.std.proofs.Common.{arith, refl, rules}
-use Rattle.stair_story.specs.Devices.{device_view}
-use Rattle.stair_story.specs.Outside.{sink_alone}
-use Rattle.stair_story.specs.Rack.{rack_view}
-use Rattle.stair_story.specs.declared.fault.Fault.TheVariants.{Output}
-use Rattle.stair_story.proofs.DeviceLaws.{not_refused, with_hands_on}
+use Rattle.stair_command.specs.Devices.{device_view}
+use Rattle.stair_command.specs.Outside.{sink_alone}
+use Rattle.stair_command.specs.Rack.{rack_view}
+use Rattle.stair_command.specs.declared.fault.Fault.TheVariants.{Output}
+use Rattle.stair_command.proofs.DeviceLaws.{not_refused, with_hands_on}
 use Rattle.stair_engine.proofs.ReadLaws.{all_read, none_read, one_read, read_cut, read_refused}
 use Rattle.stair_engine.proofs.read.put_blocks.Goals as goal
 

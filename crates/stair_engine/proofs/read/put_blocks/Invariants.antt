@@ -1,7 +1,7 @@
 -- So many blocks were put out.
-use Rattle.stair_story.specs.Devices.{device_view}
-use Rattle.stair_story.specs.Outside.{sink_alone}
-use Rattle.stair_story.specs.Rack.{rack_view}
+use Rattle.stair_command.specs.Devices.{device_view}
+use Rattle.stair_command.specs.Outside.{sink_alone}
+use Rattle.stair_command.specs.Rack.{rack_view}
 use Rattle.stair_engine.proofs.ReadLaws.{ReadSoFar}
 use Rattle.stair_engine.proofs.read.put_blocks.Given as goal
 

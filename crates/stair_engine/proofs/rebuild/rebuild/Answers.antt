@@ -1,16 +1,16 @@
 -- A session in which all that is rebuilt is rebuilt to its end.
 use Rattle.std.proofs.Common.{◌∙◌, ℕ}
-use Rattle.stair_story.specs.Devices.{device_view}
-use Rattle.stair_story.specs.Outside.{outside, sink_alone}
-use Rattle.stair_story.specs.Rack.{rack_view}
-use Rattle.stair_story.specs.Plan.{Plan, Over, Put, RebuildAll}
+use Rattle.stair_command.specs.Devices.{device_view}
+use Rattle.stair_command.specs.Outside.{outside, sink_alone}
+use Rattle.stair_command.specs.Rack.{rack_view}
+use Rattle.stair_command.specs.Program.{Program, Over, Put, RebuildAll}
 use Rattle.stair_status.specs.declared.status.Status.TheVariants.{Done}
-use Rattle.stair_story.proofs.DeviceLaws.{whole_hands_on}
+use Rattle.stair_command.proofs.DeviceLaws.{whole_hands_on}
 use Rattle.stair_engine.specs.Mending.{rebuilt_line}
 use Rattle.stair_engine.proofs.SessionLaws.{ended, ends_with, ends_with_line}
 use Rattle.stair_engine.proofs.rebuild.rebuild.Goals as goal
 
-abbrev answered : ℕ → Plan
+abbrev answered : ℕ → Program
 answered steps = Put (rebuilt_line steps) (Over Done)
 
 pub returns-in_err-array-clause-means : goal.returns-in_err-array-clause-means

@@ -1,8 +1,8 @@
 -- One step after the other.
 use Rattle.std.proofs.Common.{arith, rules}
 use Rattle.stair_array.specs.Promise.{Opened}
-use Rattle.stair_story.specs.Devices.{device_view, devices}
-use Rattle.stair_story.specs.Rack.{rack_view}
+use Rattle.stair_command.specs.Devices.{device_view, devices}
+use Rattle.stair_command.specs.Rack.{rack_view}
 use Rattle.stair_engine.proofs.RebuildLaws.{all_rebuilt, few_left, one_rebuilt, rebuild_refused}
 use Rattle.stair_engine.proofs.rebuild.rebuild_all.Goals as goal
 

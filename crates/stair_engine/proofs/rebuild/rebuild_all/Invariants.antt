@@ -1,8 +1,8 @@
 -- So many steps were made.
 use Rattle.stair_array.specs.Promise.{Opened}
-use Rattle.stair_story.specs.Devices.{device_view, devices}
-use Rattle.stair_story.specs.Rack.{rack_view}
-use Rattle.stair_story.specs.Rebuilt.{steps_left}
+use Rattle.stair_command.specs.Devices.{device_view, devices}
+use Rattle.stair_command.specs.Rack.{rack_view}
+use Rattle.stair_command.specs.Rebuilt.{steps_left}
 use Rattle.stair_engine.proofs.RebuildLaws.{RebuiltSoFar}
 use Rattle.stair_engine.proofs.rebuild.rebuild_all.Given as goal
 

@@ -1,12 +1,12 @@
 -- A session in which a slot is replaced.
 use Rattle.std.proofs.Common.{◌∙◌, nat_lt, rules}
 use Rattle.stair_array.specs.Promise.{Opened}
-use Rattle.stair_story.specs.Devices.{device_view, devices}
-use Rattle.stair_story.specs.Outside.{outside, sink_alone}
-use Rattle.stair_story.specs.Rack.{rack_view}
-use Rattle.stair_story.specs.Fault.{status_of_fault}
-use Rattle.stair_story.specs.Plan.{Over}
-use Rattle.stair_story.proofs.DeviceLaws.{whole_hands_on}
+use Rattle.stair_command.specs.Devices.{device_view, devices}
+use Rattle.stair_command.specs.Outside.{outside, sink_alone}
+use Rattle.stair_command.specs.Rack.{rack_view}
+use Rattle.stair_command.specs.Fault.{status_of_fault}
+use Rattle.stair_command.specs.Program.{Over}
+use Rattle.stair_command.proofs.DeviceLaws.{whole_hands_on}
 use Rattle.stair_engine.specs.Mending.{if_slot, replaced_line, replaces}
 use Rattle.stair_engine.proofs.ReplaceLaws.{has_slot, past_slot, was_replaced}
 use Rattle.stair_engine.proofs.SessionLaws.{ended, ends_with, ends_with_line}

@@ -5,16 +5,16 @@ use Rattle.stair_array.specs.Faults.{replace_refusal}
 use Rattle.stair_array.specs.Machine.{ReplaceSlot}
 use Rattle.stair_array.specs.Promise.{Opened}
 use Rattle.stair_array.specs.declared.fault.ReplaceFault.{ReplaceFault}
-use Rattle.stair_story.specs.Comes.{ComesTo}
-use Rattle.stair_story.specs.Devices.{device_view, devices}
-use Rattle.stair_story.specs.Fault.{status_of_fault}
-use Rattle.stair_story.specs.Plan.{Plan, Over}
-use Rattle.stair_story.specs.Rack.{rack_view}
-use Rattle.stair_story.specs.Steps.{Takes}
-use Rattle.stair_story.proofs.IntakeLaws.{if_err_of}
+use Rattle.stair_command.specs.Comes.{ExecutesOnDevices}
+use Rattle.stair_command.specs.Devices.{device_view, devices}
+use Rattle.stair_command.specs.Fault.{status_of_fault}
+use Rattle.stair_command.specs.Program.{Program, Over}
+use Rattle.stair_command.specs.Rack.{rack_view}
+use Rattle.stair_command.specs.Steps.{Takes}
+use Rattle.stair_command.proofs.IntakeLaws.{if_err_of}
 use Rattle.stair_engine.specs.Mending.{replaces}
-use Rattle.stair_story.proofs.DeviceLaws.{not_refused}
-use Rattle.stair_engine.proofs.ReplaceLaws.{admitted, gone_plan, live_plan, look_on, looked, not_admitted, not_looked}
+use Rattle.stair_command.proofs.DeviceLaws.{not_refused}
+use Rattle.stair_engine.proofs.ReplaceLaws.{admitted, gone_program, live_program, look_on, looked, not_admitted, not_looked}
 use Rattle.stair_engine.proofs.replace.replace_slot.Goals as goal
 
 pub returns-in-Err-clause-refused : goal.returns-in-Err-clause-refused
@@ -31,7 +31,7 @@ returns-in_err-rebuild_all-clause-refused g c =
     let of = c.args.array.now.member.array.geometry in
     let first = devices c.args.rack.now (Opened c.args.array.now) c.args.watchers.now.items in
     if_err_of c.from_residual.result c.in_err-rebuild_all.field-0.0
-    (λ fault. ComesTo view (replaces of c.args.slot) (Over (status_of_fault fault)) first (devices c.rebuild_all.new.rack (Opened c.rebuild_all.new.array) c.rebuild_all.new.watchers.items))
+    (λ fault. ExecutesOnDevices view (replaces of c.args.slot) (Over (status_of_fault fault)) first (devices c.rebuild_all.new.rack (Opened c.rebuild_all.new.array) c.rebuild_all.new.watchers.items))
     c.from_residual.ensures.1
     (admitted view of c.args.slot c.args.rack.now c.replace.new.rack c.args.array.now c.replace.new.self c.args.watchers.now.items
     c.replace.new.watchers.items refl
@@ -69,8 +69,8 @@ returns-in-Live-clause-done g c =
     (not_refused c.replace.result (λ fault is. c.in_default.not-Err fault is)) c.replace.ensures.taken)
     (look_on of c.args.slot c.in_ok-rebuild_all.field-0) (devices c.rebuild_all.new.rack (Opened c.rebuild_all.new.array) c.rebuild_all.new.watchers.items)
     (c.in_ok-rebuild_all.ensures.done (look_on of c.args.slot)) in
-    subst (λ (plan : Plan). ComesTo view (replaces of c.args.slot) plan first (devices c.rebuild_all.new.rack (Opened c.rebuild_all.new.array) c.rebuild_all.new.watchers.items))
-    (live_plan c.args.slot c.in-Ok.mark c.in-Live.is)
+    subst (λ (program : Program). ExecutesOnDevices view (replaces of c.args.slot) program first (devices c.rebuild_all.new.rack (Opened c.rebuild_all.new.array) c.rebuild_all.new.watchers.items))
+    (live_program c.args.slot c.in-Ok.mark c.in-Live.is)
     (looked view of c.args.slot c.in_ok-rebuild_all.field-0 first c.rebuild_all.new.rack c.rebuild_all.new.array
     c.rebuild_all.new.watchers.items rebuilt (c.in-Ok.ensures.rules c.in-Ok.ensures.value) c.in-Ok.ensures.value c.in-Ok.mark c.in-Ok.ensures.mark)
 
@@ -89,8 +89,8 @@ returns-in_default-mark g c =
     record {
       done = tt;
       stay = c.rebuild_all.ensures.stay;
-      refused = subst (λ (plan : Plan). ComesTo view (replaces of c.args.slot) plan first (devices c.rebuild_all.new.rack (Opened c.rebuild_all.new.array) c.rebuild_all.new.watchers.items))
-          (gone_plan c.args.slot c.in-Ok.mark c.in_default-mark.not-Live)
+      refused = subst (λ (program : Program). ExecutesOnDevices view (replaces of c.args.slot) program first (devices c.rebuild_all.new.rack (Opened c.rebuild_all.new.array) c.rebuild_all.new.watchers.items))
+          (gone_program c.args.slot c.in-Ok.mark c.in_default-mark.not-Live)
           (looked view of c.args.slot c.in_ok-rebuild_all.field-0 first c.rebuild_all.new.rack c.rebuild_all.new.array
           c.rebuild_all.new.watchers.items rebuilt (c.in-Ok.ensures.rules c.in-Ok.ensures.value) c.in-Ok.ensures.value c.in-Ok.mark c.in-Ok.ensures.mark);
     }

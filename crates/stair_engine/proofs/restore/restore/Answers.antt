@@ -1,5 +1,5 @@
 -- There was no memory; or what was done with the code that was made.
-use Rattle.stair_story.specs.Outside.{views}
+use Rattle.stair_command.specs.Outside.{views}
 use Rattle.stair_conf.specs.declared.job.StripeCommand.TheVariants.{Restore}
 use Rattle.stair_engine.proofs.restore.restore.Goals as goal
 use Rattle.stair_engine.proofs.StripeLaws.{after_memory, no_memory, of_geometry}

@@ -1,4 +1,4 @@
--- The stripe is of the code's geometry; each return, by its deeds.
+-- The stripe is of the code's geometry; each return, by its items.
 use Rattle.std.proofs.Common.{◌≡◌, [], length, refl, rules, subst, sym}
 use Rattle.std.specs.Prelude.{IsErr, IsNone, IsOk, IsSome}
 use Rattle.std.specs.List.{concat}
@@ -6,7 +6,7 @@ use Rattle.stair_model.specs.CellSet.{IsInStripe}
 use Rattle.stair_model.specs.Geometry.{Geometry}
 use Rattle.stair_model.specs.Stripe.{IsStripeOf}
 use Rattle.stair_status.specs.declared.status.Status.TheVariants.{Lost, NoCodeword}
-use Rattle.stair_story.specs.Outside.{views}
+use Rattle.stair_command.specs.Outside.{views}
 use Rattle.stair_conf.specs.declared.job.StripeCommand.TheVariants.{Restore}
 use Rattle.stair_engine.proofs.AnswerLaws.{at_ok, judged_lost, judged_none, judged_restored}
 use Rattle.stair_engine.proofs.restore.restore_by.Goals as goal

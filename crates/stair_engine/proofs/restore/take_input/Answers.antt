@@ -3,13 +3,13 @@ use Rattle.std.proofs.Common.{◌≡◌, ℕ, ◌+◌, ◌*◌, ◌<◌, ◌++�
 use Rattle.std.specs.List.{concat}
 use Rattle.stair_model.specs.Geometry.{Geometry, IsWithinLimits}
 use Rattle.stair_conf.specs.declared.job.StripeCommand.TheVariants.{Restore}
-use Rattle.stair_story.specs.Answer.{bytes_needed}
-use Rattle.stair_story.specs.Outside.{source_view}
-use Rattle.stair_story.specs.Taking.{intake_of}
-use Rattle.stair_story.specs.declared.intake.Intake.{Intake}
+use Rattle.stair_command.specs.Answer.{bytes_needed}
+use Rattle.stair_command.specs.Outside.{source_view}
+use Rattle.stair_command.specs.Taking.{intake_of}
+use Rattle.stair_command.specs.declared.intake.Intake.{Intake}
 use Rattle.stair_engine.proofs.AnswerLaws.{IsMapAndCells-all, some_cells}
 use Rattle.stair_engine.proofs.CellLaws.{few_cells, has_room, length-cell_bytes}
-use Rattle.stair_story.proofs.IntakeLaws.{CutsShort-later, TakesBytes-more, all_counted, whole_cut, whole_ended, whole_goes_on, whole_handed_on}
+use Rattle.stair_command.proofs.IntakeLaws.{CutsShort-later, TakesBytes-more, all_counted, whole_cut, whole_ended, whole_goes_on, whole_handed_on}
 use Rattle.stair_engine.proofs.restore.take_input.Goals as goal
 
 -- the bytes that are needed are those of the map and of the cells

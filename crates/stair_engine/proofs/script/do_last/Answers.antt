@@ -1,10 +1,10 @@
 -- What stands after the last end of a line.
 use Rattle.std.proofs.Common.{arith, rules}
 use Rattle.stair_array.specs.Promise.{Opened}
-use Rattle.stair_story.proofs.DeviceLaws.{with_hands_on}
-use Rattle.stair_story.specs.Devices.{device_view, devices}
-use Rattle.stair_story.specs.Outside.{sink_alone}
-use Rattle.stair_story.specs.Rack.{rack_view}
+use Rattle.stair_command.proofs.DeviceLaws.{with_hands_on}
+use Rattle.stair_command.specs.Devices.{device_view, devices}
+use Rattle.stair_command.specs.Outside.{sink_alone}
+use Rattle.stair_command.specs.Rack.{rack_view}
 use Rattle.stair_engine.proofs.LineAnswerLaws.{fewer_left, last_cut, last_done, last_halted, last_refused, none_left, nothing_last}
 use Rattle.stair_engine.proofs.script.do_last.Goals as goal
 

@@ -1,15 +1,15 @@
 -- Byte after byte.
 use Rattle.std.proofs.Common.{Option, ap, arith, refl, rules, subst, ◌+◌, ℕ}
 use Rattle.stair_array.specs.Promise.{Opened}
-use Rattle.stair_story.proofs.DeviceLaws.{with_hands_on}
-use Rattle.stair_story.specs.Devices.{device_view, devices}
-use Rattle.stair_story.specs.Fault.{status_of}
-use Rattle.stair_story.specs.Outside.{sink_view, source_view, views}
-use Rattle.stair_story.specs.Rack.{rack_view}
+use Rattle.stair_command.proofs.DeviceLaws.{with_hands_on}
+use Rattle.stair_command.specs.Devices.{device_view, devices}
+use Rattle.stair_command.specs.Fault.{status_of}
+use Rattle.stair_command.specs.Outside.{sink_view, source_view, views}
+use Rattle.stair_command.specs.Rack.{rack_view}
 use Rattle.stair_engine.proofs.LineAnswerLaws.{byte_failed, fewer_left, line_halted, none_left, ends_last, line_cut, line_did, line_long, line_refused, none_did, one_more, same_did, too_long}
-use Rattle.stair_story.specs.Texts.{TakesByte}
+use Rattle.stair_command.specs.Texts.{TakesByte}
 use Rattle.stair_engine.proofs.script.do_lines.Goals as goal
-use Rattle.stair_engine.proofs.script.do_lines.Goals.{then-byte-eq10+in_ok-reply+in_ok-put_reply+else-is_halted, else-byte-eq10+then-bytes-lt-LINE_LIMIT}
+use Rattle.stair_engine.proofs.script.do_lines.Goals.{then-byte-eq10+in_ok-reply+in_ok-put_reply+else-is_halted, else-byte-eq10+then-bytes-lt-MAX_SCRIPT_LINE}
 
 pub loop-init : goal.loop-init
 loop-init g c =
@@ -89,8 +89,8 @@ returns-then-is_halted-clause-means g c counter =
     (c.is_halted.ensures.halted c.if-is_halted.true).0 (fewer_left c.loop.watchers.items c.take_line.new.watchers.items (search rules))
     c.in_ok-put_reply.ensures.put counter
 
-pub returns-else-bytes-lt-LINE_LIMIT-clause-means : goal.returns-else-bytes-lt-LINE_LIMIT-clause-means
-returns-else-bytes-lt-LINE_LIMIT-clause-means g c =
+pub returns-else-bytes-lt-MAX_SCRIPT_LINE-clause-means : goal.returns-else-bytes-lt-MAX_SCRIPT_LINE-clause-means
+returns-else-bytes-lt-MAX_SCRIPT_LINE-clause-means g c =
     let view = device_view (rack_view g.R.Rack) (λ b. (goal.Watcher-dyn g (b.vtable, b.value)).hears b.value) in
     let of = c.args.array.now.member.array.geometry in
     let first = devices c.args.rack.now (Opened c.args.array.now) c.args.watchers.now.items in
@@ -120,7 +120,7 @@ loop-preserved g c =
           (omega (arith, w.is_halted.ensures.goes_on w.if-is_halted.false guards, w.len-before.ensures, w.len.ensures)))
           w.clear.new.self w.clear.ensures.text w.in_ok-put_reply.ensures.put
           w.take_line.ensures.geometry w.take_line.ensures.stay)
-      | else-byte-eq10+then-bytes-lt-LINE_LIMIT w ↦
+      | else-byte-eq10+then-bytes-lt-MAX_SCRIPT_LINE w ↦
           same_did view source sink c.args.guarded of first c.args.input.now c.args.output.now (c.loop.counter + 1) c.next_byte.new.input w.number-is w.line-is w.rack-is w.array-is (ap (λ all. all.items) w.watchers-is) w.output-is
           (one_more view source sink c.args.guarded of first c.args.input.now c.args.output.now c.loop.counter c.loop.number c.loop.line
           c.loop.rack c.loop.array c.loop.watchers.items c.loop.input c.next_byte.new.input c.loop.output c.loop.invariant c.loop-test.true c.in-Some.byte

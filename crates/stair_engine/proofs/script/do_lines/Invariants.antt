@@ -1,8 +1,8 @@
 -- So many bytes were taken.
 use Rattle.stair_array.specs.Promise.{Opened}
-use Rattle.stair_story.specs.Devices.{device_view, devices}
-use Rattle.stair_story.specs.Outside.{sink_view, source_view}
-use Rattle.stair_story.specs.Rack.{rack_view}
+use Rattle.stair_command.specs.Devices.{device_view, devices}
+use Rattle.stair_command.specs.Outside.{sink_view, source_view}
+use Rattle.stair_command.specs.Rack.{rack_view}
 use Rattle.stair_engine.proofs.LineAnswerLaws.{DidSoFar}
 use Rattle.stair_engine.proofs.script.do_lines.Given as goal
 

@@ -1,10 +1,10 @@
 -- A session in which all stripes are scrubbed.
 use Rattle.std.proofs.Common.{◌∙◌, ℕ, ap}
 use Rattle.stair_model.specs.Geometry.{Geometry}
-use Rattle.stair_story.specs.Devices.{device_view}
-use Rattle.stair_story.specs.Outside.{outside, sink_alone}
-use Rattle.stair_story.specs.Rack.{rack_view}
-use Rattle.stair_story.proofs.DeviceLaws.{whole_hands_on}
+use Rattle.stair_command.specs.Devices.{device_view}
+use Rattle.stair_command.specs.Outside.{outside, sink_alone}
+use Rattle.stair_command.specs.Rack.{rack_view}
+use Rattle.stair_command.proofs.DeviceLaws.{whole_hands_on}
 use Rattle.stair_engine.specs.Mending.{scrubbed_line, scrubs}
 use Rattle.stair_engine.proofs.SessionLaws.{ended, ends_with, ends_with_line}
 use Rattle.stair_engine.proofs.scrub.scrub.Goals as goal

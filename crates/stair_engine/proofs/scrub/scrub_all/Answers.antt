@@ -1,8 +1,8 @@
 -- One stripe after the other.
 use Rattle.std.proofs.Common.{◌+◌, ℕ, rules, subst, sym}
 use Rattle.stair_array.specs.Promise.{Opened}
-use Rattle.stair_story.specs.Devices.{device_view, devices}
-use Rattle.stair_story.specs.Rack.{rack_view}
+use Rattle.stair_command.specs.Devices.{device_view, devices}
+use Rattle.stair_command.specs.Rack.{rack_view}
 use Rattle.stair_engine.proofs.ScrubLaws.{ScrubbedSoFar, one_scrubbed, scrub_refused}
 use Rattle.stair_engine.proofs.scrub.scrub_all.Goals as goal
 

@@ -1,7 +1,7 @@
 -- So many stripes were scrubbed.
 use Rattle.stair_array.specs.Promise.{Opened}
-use Rattle.stair_story.specs.Devices.{device_view, devices}
-use Rattle.stair_story.specs.Rack.{rack_view}
+use Rattle.stair_command.specs.Devices.{device_view, devices}
+use Rattle.stair_command.specs.Rack.{rack_view}
 use Rattle.stair_engine.proofs.ScrubLaws.{ScrubbedSoFar}
 use Rattle.stair_engine.proofs.scrub.scrub_all.Given as goal
 

@@ -1,11 +1,11 @@
 -- Each line.
 use Rattle.std.proofs.Common.{◌≡◌, List, ℕ, Result, ◌++◌, ap, ◌∙◌, subst}
-use Rattle.stair_story.specs.Means.{Holds}
-use Rattle.stair_story.specs.Outside.{SinkView, sink_view}
-use Rattle.stair_story.specs.Story.{HasPut}
-use Rattle.stair_story.specs.Streams.{PutsAll}
+use Rattle.stair_command.specs.Executes.{Holds}
+use Rattle.stair_command.specs.Outside.{SinkView, sink_view}
+use Rattle.stair_command.specs.Trace.{HasPut}
+use Rattle.stair_command.specs.Streams.{PutsAll}
 use Rattle.stair_engine.specs.Show.{array_line, epoch_line, frozen_line, geometry_line, label_line}
-use Rattle.stair_story.proofs.TextLaws.{PutsPart, puts_first, puts_then}
+use Rattle.stair_command.proofs.TextLaws.{PutsPart, puts_first, puts_then}
 use Rattle.stair_engine.proofs.show.put_array.Goals as goal
 use Rattle.std.specs.Prelude.{IsErr}
 

@@ -2,11 +2,11 @@
 use Rattle.std.proofs.Common.{◌≡◌, ℕ, zero, suc, ◌+◌, ◌<◌, ◌≤◌, List, [], ◌++◌, inl, inr, sym, ap, ◌∙◌, subst, arith, add-one, append_assoc, append-nil, eq-or-lt_of_le}
 use Rattle.stair_model.specs.Geometry.{Geometry}
 use Rattle.stair_member.specs.Membership.{Membership}
-use Rattle.stair_story.specs.Means.{Holds}
-use Rattle.stair_story.specs.Outside.{sink_view}
+use Rattle.stair_command.specs.Executes.{Holds}
+use Rattle.stair_command.specs.Outside.{sink_view}
 use Rattle.stair_engine.specs.Show.{array_text, slot_line, slot_lines}
-use Rattle.stair_story.specs.Story.{HasPut}
-use Rattle.stair_story.proofs.TextLaws.{puts_first, puts_more, puts_more_part}
+use Rattle.stair_command.specs.Trace.{HasPut}
+use Rattle.stair_command.proofs.TextLaws.{puts_first, puts_more, puts_more_part}
 use Rattle.stair_engine.proofs.show.put_member.Goals as goal
 
 -- with the line of the next slot

@@ -1,9 +1,9 @@
 -- The lines of the array and of the slots so far were put into the sink.
 use Rattle.std.proofs.Common.{◌++◌}
-use Rattle.stair_story.specs.Means.{Holds}
-use Rattle.stair_story.specs.Outside.{sink_view}
+use Rattle.stair_command.specs.Executes.{Holds}
+use Rattle.stair_command.specs.Outside.{sink_view}
 use Rattle.stair_engine.specs.Show.{array_text, slot_lines}
-use Rattle.stair_story.specs.Story.{HasPut}
+use Rattle.stair_command.specs.Trace.{HasPut}
 use Rattle.stair_engine.proofs.show.put_member.Given as goal
 
 abbrev pub invariant-loop-slot : goal.invariant-loop-slot

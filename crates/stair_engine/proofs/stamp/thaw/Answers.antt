@@ -6,13 +6,13 @@ use Rattle.stair_array.specs.Faults.{refusal_for}
 use Rattle.stair_array.specs.Machine.{SetFrozen}
 use Rattle.stair_array.specs.Promise.{Opened}
 use Rattle.stair_array.specs.declared.fault.ArrayFault.{ArrayFault}
-use Rattle.stair_story.specs.Devices.{device_view, devices}
-use Rattle.stair_story.specs.Outside.{outside, sink_alone}
-use Rattle.stair_story.specs.Rack.{rack_view}
-use Rattle.stair_story.specs.Plan.{Over, Put, take_step}
-use Rattle.stair_story.specs.Steps.{Takes}
+use Rattle.stair_command.specs.Devices.{device_view, devices}
+use Rattle.stair_command.specs.Outside.{outside, sink_alone}
+use Rattle.stair_command.specs.Rack.{rack_view}
+use Rattle.stair_command.specs.Program.{Over, Put, take_step}
+use Rattle.stair_command.specs.Steps.{Takes}
 use Rattle.stair_status.specs.declared.status.Status.TheVariants.{Done}
-use Rattle.stair_story.proofs.DeviceLaws.{not_refused, whole_hands_on}
+use Rattle.stair_command.proofs.DeviceLaws.{not_refused, whole_hands_on}
 use Rattle.stair_engine.proofs.SessionLaws.{ended}
 use Rattle.stair_engine.proofs.StampLaws.{stamp_refused, stamped}
 use Rattle.stair_engine.proofs.stamp.thaw.Goals as goal

@@ -3,16 +3,16 @@ use Rattle.std.proofs.Common.{◌≡◌, ◌∙◌, ℕ, ◌*◌, Ok, replicate,
 use Rattle.stair_model.specs.Geometry.{Geometry, data_cells}
 use Rattle.stair_array.specs.Machine.{Recover}
 use Rattle.stair_array.specs.Promise.{Found, Opened}
-use Rattle.stair_story.specs.Devices.{MeansWith, device_view, devices}
-use Rattle.stair_story.specs.Outside.{outside, views}
-use Rattle.stair_story.specs.Plan.{Plan, Over}
-use Rattle.stair_story.specs.Rack.{rack_view}
-use Rattle.stair_story.specs.declared.fault.Fault.TheVariants.{Memory, Survey}
+use Rattle.stair_command.specs.Devices.{ExecutesWith, device_view, devices}
+use Rattle.stair_command.specs.Outside.{outside, views}
+use Rattle.stair_command.specs.Program.{Program, Over}
+use Rattle.stair_command.specs.Rack.{rack_view}
+use Rattle.stair_command.specs.declared.fault.Fault.TheVariants.{Memory, Survey}
 use Rattle.stair_status.specs.declared.status.Status.{Status}
 use Rattle.stair_status.specs.declared.status.Status.TheVariants.{Done}
-use Rattle.stair_story.proofs.DeviceLaws.{whole_hands_on, with_then}
-use Rattle.stair_story.proofs.TakenLaws.{taken_geometry}
-use Rattle.stair_volume.specs.Commands.{status_of, status_of_volume, volume_plan}
+use Rattle.stair_command.proofs.DeviceLaws.{whole_hands_on, with_then}
+use Rattle.stair_command.proofs.TakenLaws.{taken_geometry}
+use Rattle.stair_volume.specs.Commands.{status_of, status_of_volume, volume_program}
 use Rattle.stair_model.specs.Stripe.{SECTOR}
 use Rattle.stair_engine.proofs.MadeLaws.{done_ends, fault_ends}
 use Rattle.stair_engine.proofs.SessionLaws.{no_memory, none_found, not_opened, opened}
@@ -22,37 +22,37 @@ pub returns-in_err-member-clause-means : goal.returns-in_err-member-clause-means
 returns-in_err-member-clause-means g c counter =
     let view = device_view (rack_view g.R.Rack) (λ b. (goal.Watcher-dyn g (b.vtable, b.value)).hears b.value) in
     let streams = views g.S.Source g.K.Sink in
-    let k : Geometry → Plan = volume_plan c.args.job.now in
+    let k : Geometry → Program = volume_program c.args.job.now in
     let a = outside c.args.input.now c.args.output.now counter in
     whole_hands_on view streams _ _ _ _ _ _ _ c.from_residual.result (Survey c.in_err-member.field-0.0) c.from_residual.ensures.1
-    (none_found view streams k a c.args.rack.now c.survey.new.rack c.args.watchers.now.items c.in_err-member.field-0.0 c.in_err-member.ensures.told)
+    (none_found view streams k a c.args.rack.now c.survey.new.rack c.args.watchers.now.items c.in_err-member.field-0.0 c.in_err-member.ensures.does)
 
 pub returns-in_err-zeros-clause-means : goal.returns-in_err-zeros-clause-means
 returns-in_err-zeros-clause-means g c counter =
     let view = device_view (rack_view g.R.Rack) (λ b. (goal.Watcher-dyn g (b.vtable, b.value)).hears b.value) in
     let streams = views g.S.Source g.K.Sink in
-    let k : Geometry → Plan = volume_plan c.args.job.now in
+    let k : Geometry → Program = volume_program c.args.job.now in
     let a = outside c.args.input.now c.args.output.now counter in
     whole_hands_on view streams _ _ _ _ _ _ _ c.from_residual-in_err-zeros.result Memory c.from_residual-in_err-zeros.ensures.1
-    (no_memory view streams k a c.args.rack.now c.survey.new.rack c.args.watchers.now.items c.in_ok-member.member c.in_ok-member.ensures.told)
+    (no_memory view streams k a c.args.rack.now c.survey.new.rack c.args.watchers.now.items c.in_ok-member.member c.in_ok-member.ensures.does)
 
 pub returns-in_err-piece-clause-means : goal.returns-in_err-piece-clause-means
 returns-in_err-piece-clause-means g c counter =
     let view = device_view (rack_view g.R.Rack) (λ b. (goal.Watcher-dyn g (b.vtable, b.value)).hears b.value) in
     let streams = views g.S.Source g.K.Sink in
-    let k : Geometry → Plan = volume_plan c.args.job.now in
+    let k : Geometry → Program = volume_program c.args.job.now in
     let a = outside c.args.input.now c.args.output.now counter in
     whole_hands_on view streams _ _ _ _ _ _ _ c.from_residual-in_err-piece.result Memory c.from_residual-in_err-piece.ensures.1
-    (no_memory view streams k a c.args.rack.now c.survey.new.rack c.args.watchers.now.items c.in_ok-member.member c.in_ok-member.ensures.told)
+    (no_memory view streams k a c.args.rack.now c.survey.new.rack c.args.watchers.now.items c.in_ok-member.member c.in_ok-member.ensures.does)
 
 pub returns-in_err-array-clause-means : goal.returns-in_err-array-clause-means
 returns-in_err-array-clause-means g c counter =
     let view = device_view (rack_view g.R.Rack) (λ b. (goal.Watcher-dyn g (b.vtable, b.value)).hears b.value) in
     let streams = views g.S.Source g.K.Sink in
-    let k : Geometry → Plan = volume_plan c.args.job.now in
+    let k : Geometry → Program = volume_program c.args.job.now in
     let a = outside c.args.input.now c.args.output.now counter in
     whole_hands_on view streams _ _ _ _ _ _ _ c.from_residual-in_err-array.result c.in_err-array.field-0.0 c.from_residual-in_err-array.ensures.1
-    (not_opened view streams k a c.args.rack.now c.survey.new.rack c.args.watchers.now.items c.in_ok-member.member c.in_ok-member.ensures.told
+    (not_opened view streams k a c.args.rack.now c.survey.new.rack c.args.watchers.now.items c.in_ok-member.member c.in_ok-member.ensures.does
     c.open.new.rack c.open.new.watchers.items c.in_err-array.field-0.0 c.in_err-array.ensures.refused)
 
 pub volume-done-requires-clause-zeros : goal.volume-done-requires-clause-zeros
@@ -80,7 +80,7 @@ pub returns-in-Ok-clause-means : goal.returns-in-Ok-clause-means
 returns-in-Ok-clause-means g c counter =
     let view = device_view (rack_view g.R.Rack) (λ b. (goal.Watcher-dyn g (b.vtable, b.value)).hears b.value) in
     let streams = views g.S.Source g.K.Sink in
-    let k : Geometry → Plan = volume_plan c.args.job.now in
+    let k : Geometry → Program = volume_program c.args.job.now in
     let a = outside c.args.input.now c.args.output.now counter in
     let m = c.in_ok-member.member in
     let array = c.in_ok-array.array in
@@ -91,11 +91,11 @@ returns-in-Ok-clause-means g c counter =
     record {
       session = Opened c.volume-done.new.array;
       with = with_then view streams
-          (opened view streams k a c.args.rack.now c.survey.new.rack c.args.watchers.now.items m c.in_ok-member.ensures.told c.open.new.rack
+          (opened view streams k a c.args.rack.now c.survey.new.rack c.args.watchers.now.items m c.in_ok-member.ensures.does c.open.new.rack
           c.open.new.watchers.items array c.in_ok-array.ensures.taken)
-          (subst (λ (of : Geometry). MeansWith view streams (k of) (Over Done) a (outside c.volume-done.new.input c.volume-done.new.output counter) y
+          (subst (λ (of : Geometry). ExecutesWith view streams (k of) (Over Done) a (outside c.volume-done.new.input c.volume-done.new.output counter) y
           (devices c.volume-done.new.rack (Opened c.volume-done.new.array) c.volume-done.new.watchers.items)) same
-          (subst (λ (status : Status). MeansWith view streams (k array.member.array.geometry) (Over status) a
+          (subst (λ (status : Status). ExecutesWith view streams (k array.member.array.geometry) (Over status) a
           (outside c.volume-done.new.input c.volume-done.new.output counter) y
           (devices c.volume-done.new.rack (Opened c.volume-done.new.array) c.volume-done.new.watchers.items)) end (c.volume-done.ensures.means counter)));
     }
@@ -104,7 +104,7 @@ pub returns-clause-means : goal.returns-clause-means
 returns-clause-means g c counter =
     let view = device_view (rack_view g.R.Rack) (λ b. (goal.Watcher-dyn g (b.vtable, b.value)).hears b.value) in
     let streams = views g.S.Source g.K.Sink in
-    let k : Geometry → Plan = volume_plan c.args.job.now in
+    let k : Geometry → Program = volume_program c.args.job.now in
     let a = outside c.args.input.now c.args.output.now counter in
     let m = c.in_ok-member.member in
     let array = c.in_ok-array.array in
@@ -117,11 +117,11 @@ returns-clause-means g c counter =
     record {
       session = Opened c.volume-done.new.array;
       with = with_then view streams
-          (opened view streams k a c.args.rack.now c.survey.new.rack c.args.watchers.now.items m c.in_ok-member.ensures.told c.open.new.rack
+          (opened view streams k a c.args.rack.now c.survey.new.rack c.args.watchers.now.items m c.in_ok-member.ensures.does c.open.new.rack
           c.open.new.watchers.items array c.in_ok-array.ensures.taken)
-          (subst (λ (of : Geometry). MeansWith view streams (k of) (Over c.status.result) a (outside c.volume-done.new.input c.volume-done.new.output counter) y
+          (subst (λ (of : Geometry). ExecutesWith view streams (k of) (Over c.status.result) a (outside c.volume-done.new.input c.volume-done.new.output counter) y
           (devices c.volume-done.new.rack (Opened c.volume-done.new.array) c.volume-done.new.watchers.items)) same
-          (subst (λ (status : Status). MeansWith view streams (k array.member.array.geometry) (Over status) a
+          (subst (λ (status : Status). ExecutesWith view streams (k array.member.array.geometry) (Over status) a
           (outside c.volume-done.new.input c.volume-done.new.output counter) y
           (devices c.volume-done.new.rack (Opened c.volume-done.new.array) c.volume-done.new.watchers.items)) end (c.volume-done.ensures.means counter)));
     }

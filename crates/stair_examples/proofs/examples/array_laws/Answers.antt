@@ -11,8 +11,8 @@ returns-clause-encodes c = encodes.examples
 pub returns-clause-is_within_tolerance : goal.returns-clause-is_within_tolerance
 returns-clause-is_within_tolerance c = tolerance.away
 
-pub returns-clause-is_calm : goal.returns-clause-is_calm
-returns-clause-is_calm c = tolerance.calms
+pub returns-clause-stays_within_tolerance : goal.returns-clause-stays_within_tolerance
+returns-clause-stays_within_tolerance c = tolerance.calms
 
 pub returns-clause-represents : goal.returns-clause-represents
 returns-clause-represents c = represents.examples

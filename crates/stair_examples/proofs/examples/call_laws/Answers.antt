@@ -6,8 +6,8 @@ use Rattle.stair_examples.proofs.examples.call_laws.Goals as goal
 pub returns-clause-means : goal.returns-clause-means
 returns-clause-means c = call.meanings
 
-pub returns-clause-is_borne_out : goal.returns-clause-is_borne_out
-returns-clause-is_borne_out c = call.calls
+pub returns-clause-refines_program : goal.returns-clause-refines_program
+returns-clause-refines_program c = call.calls
 
 pub returns-clause-goes : goal.returns-clause-goes
 returns-clause-goes c = call.steps

@@ -14,14 +14,14 @@ returns-in-Here-clause-asks g c =
     (g.R.Rack.reads c.args.rack.now) (g.R.Rack.reads c.loop-slot.rack) (g.R.Rack.reads c.ask.new.rack) c.loop-slot.invariant c.in-Here.ensures.asks
     c.in-Here.ensures.formed c.in-Here.ensures.reads
 
-pub returns-in-Here-clause-told : goal.returns-in-Here-clause-told
-returns-in-Here-clause-told g c =
+pub returns-in-Here-clause-does : goal.returns-in-Here-clause-does
+returns-in-Here-clause-does g c =
     gives c.args.live c.args.sector c.loop-slot.slot c.args.gone.now c.loop-slot.gone c.ask.new.gone
     (told g.R.Rack c.args.rack.now)
     (told g.R.Rack c.loop-slot.rack)
     (told g.R.Rack c.ask.new.rack)
     (g.R.Rack.reads c.args.rack.now) (g.R.Rack.reads c.loop-slot.rack) (g.R.Rack.reads c.ask.new.rack) c.loop-slot.invariant c.in-Here.ensures.asks
-    c.in-Here.ensures.formed c.in-Here.ensures.reads c.ask.new.bytes c.in-Here.ensures.told.0 c.in-Here.ensures.told.1
+    c.in-Here.ensures.formed c.in-Here.ensures.reads c.ask.new.bytes c.in-Here.ensures.does.0 c.in-Here.ensures.does.1
 
 pub returns-in-Here-clause-reads : goal.returns-in-Here-clause-reads
 returns-in-Here-clause-reads g c =
@@ -39,7 +39,7 @@ loop-slot-preserved g c =
     (told g.R.Rack c.loop-slot.rack)
     (told g.R.Rack c.ask.new.rack)
     (g.R.Rack.reads c.args.rack.now) (g.R.Rack.reads c.loop-slot.rack) (g.R.Rack.reads c.ask.new.rack) c.loop-slot.invariant
-    c.in-Nowhere.ensures.asks c.in-Nowhere.ensures.formed c.in-Nowhere.ensures.reads c.in-Nowhere.ensures.told c.in-Nowhere.ensures.in_turn
+    c.in-Nowhere.ensures.asks c.in-Nowhere.ensures.formed c.in-Nowhere.ensures.reads c.in-Nowhere.ensures.does c.in-Nowhere.ensures.in_turn
 
 pub returns-in-Here-clause-in_turn : goal.returns-in-Here-clause-in_turn
 returns-in-Here-clause-in_turn g c honest = record {

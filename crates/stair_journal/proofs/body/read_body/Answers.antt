@@ -11,8 +11,8 @@ loop-row-init g c = none_read c.args.geometry.now c.args.live c.args.redo.now _ 
 pub loop-row-preserved : goal.loop-row-preserved
 loop-row-preserved g c = c.read_row.ensures _ c.loop-row.invariant
 
-pub returns-clause-told : goal.returns-clause-told
-returns-clause-told g c =
+pub returns-clause-does : goal.returns-clause-does
+returns-clause-does g c =
     let all : c.loop-row.row ≡ c.args.geometry.now.r = omega arith in
     all_read c.args.geometry.now c.args.live c.args.redo.now
     (standing (record { unread = None; gone = c.empty.result }) c.args.into.now

@@ -23,7 +23,7 @@ loop-slot-preserved g c =
           rw (w.gates-is, w.rack-is)
           (gates_more c.args.geometry.now c.n.ensures.limits c.args.live c.loop-slot.slot c.loop-slot.gates w.note.new.gates old now new
           (g.R.Rack.reads c.args.rack.now) (g.R.Rack.reads c.loop-slot.rack) (g.R.Rack.reads w.look_at-seen.new.rack) c.loop-slot.invariant
-          c.has.ensures.well_formed (c.has.ensures.member.0 w.if-has.true) w.look_at-seen.result w.look_at-seen.ensures.told
+          c.has.ensures.well_formed (c.has.ensures.member.0 w.if-has.true) w.look_at-seen.result w.look_at-seen.ensures.does
           w.look_at-seen.ensures.counts refl w.look_at-seen.ensures.once w.look_at-seen.ensures.reads w.note.ensures)
       | else-has w ↦
           rw (w.gates-is, w.rack-is)
@@ -32,8 +32,8 @@ loop-slot-preserved g c =
           (sym (same_test c.has.result (has_slot c.args.live c.loop-slot.slot) c.has.ensures.member) ∙ w.if-has.false))
     ]
 
-pub returns-clause-told : goal.returns-clause-told
-returns-clause-told g c =
+pub returns-clause-does : goal.returns-clause-does
+returns-clause-does g c =
     let all : c.loop-slot.slot ≡ 32 = omega arith in
     gates_all c.args.geometry.now c.args.live c.loop-slot.gates
     (told g.R.Rack c.args.rack.now)

@@ -21,13 +21,13 @@ loop-slot-preserved g c =
           rw (w.gone-is, w.rack-is) (
             phase_gone _ _ _ _ _ _ _ _ c.has.ensures.well_formed c.loop-slot.invariant.0 _ w.add.ensures.well_formed w.add.ensures.members on
                 (record {
-                  told = λ honest. rw gone at (w.write_cells.ensures.told honest);
+                  told = λ honest. rw gone at (w.write_cells.ensures.does honest);
                   gone = λ is. w.write_cells.ensures.gone gone;
                   counts = w.write_cells.ensures.counts;
                   reads = w.write_cells.ensures.reads;
                 }) (λ k bytes is. refl),
             λ honest.
-                are_gone_then (c.loop-slot.invariant.0.told honest).ran (w.write_cells.ensures.told honest).ran
+                are_gone_then (c.loop-slot.invariant.0.told honest).ran (w.write_cells.ensures.does honest).ran
                 (λ j has. (w.add.ensures.members j).1 (inl has)) (λ j is. (w.add.ensures.members j).1 (inr is.0))
                 (c.loop-slot.invariant.1 honest) (w.write_cells.ensures.told_gone honest),
           )
@@ -39,13 +39,13 @@ loop-slot-preserved g c =
                 rw (w.gone-is, w.rack-is, v.rack-is) (
                   phase_done _ _ _ _ _ _ _ _ c.has.ensures.well_formed c.loop-slot.invariant.0 on
                       (record {
-                        told = λ honest. rw done at (v.write_cells.ensures.told honest);
+                        told = λ honest. rw done at (v.write_cells.ensures.does honest);
                         gone = λ is. v.write_cells.ensures.gone (done ∙ is);
                         counts = v.write_cells.ensures.counts;
                         reads = v.write_cells.ensures.reads;
                       }) (λ k bytes is. refl),
                   λ honest.
-                      are_gone_then (c.loop-slot.invariant.0.told honest).ran (v.write_cells.ensures.told honest).ran (λ j has. has)
+                      are_gone_then (c.loop-slot.invariant.0.told honest).ran (v.write_cells.ensures.does honest).ran (λ j has. has)
                       (λ j is. absurd (done_not_gone j is)) (c.loop-slot.invariant.1 honest)
                       (rw done at (v.write_cells.ensures.told_gone honest)),
                 )
@@ -56,9 +56,9 @@ loop-slot-preserved g c =
           ]
     ]
 
-pub returns-clause-told : goal.returns-clause-told
-returns-clause-told g c =
+pub returns-clause-does : goal.returns-clause-does
+returns-clause-does g c =
     let all : c.loop-slot.slot ≡ 32 = omega arith in
     does_slots _ _ _ _ _ _ _ _ _ _ _ c.loop-slot.invariant.0 c.loop-slot.invariant.1
     (λ j k bytes on is. rw all (HasSlot-below c.args.live (c.loop-slot.invariant.0.to_set (omega (arith, all))) j on))
-    c.sync_rest.ensures.gone c.sync_rest.ensures.counts c.sync_rest.ensures.well_formed c.sync_rest.ensures.told
+    c.sync_rest.ensures.gone c.sync_rest.ensures.counts c.sync_rest.ensures.well_formed c.sync_rest.ensures.does

@@ -16,31 +16,31 @@ loop-row-preserved g c =
     let done = Done-compared c.write_row.result (sym c.eq.ensures ∙ c.if-eq.false) in (
       rows_more c.args.geometry.now c.args.redo.now c.args.stripe.now c.args.slot _ c.loop-row.row reply.Done _ _ _ c.loop-row.invariant.0
           (record {
-            told = λ honest. rw done at (c.write_row.ensures.told honest);
+            told = λ honest. rw done at (c.write_row.ensures.does honest);
             gone = λ is. c.write_row.ensures.gone (done ∙ is);
             counts = c.write_row.ensures.counts;
             reads = c.write_row.ensures.reads;
           }),
       λ honest.
-          slot_told (c.loop-row.invariant.0.told honest).ran (c.write_row.ensures.told honest).ran (c.loop-row.invariant.1 honest)
+          slot_told (c.loop-row.invariant.0.told honest).ran (c.write_row.ensures.does honest).ran (c.loop-row.invariant.1 honest)
           (rw done at (c.write_row.ensures.told_gone honest)),
     )
 
-pub returns-then-eq-clause-told : goal.returns-then-eq-clause-told
-returns-then-eq-clause-told g c =
+pub returns-then-eq-clause-does : goal.returns-then-eq-clause-does
+returns-then-eq-clause-does g c =
     let gone = Gone-compared c.write_row.result (sym c.eq.ensures ∙ c.if-eq.true) in
     let more =
     rows_more c.args.geometry.now c.args.redo.now c.args.stripe.now c.args.slot _ c.loop-row.row reply.Gone _ _ _ c.loop-row.invariant.0
     (record {
-      told = λ honest. rw gone at (c.write_row.ensures.told honest);
+      told = λ honest. rw gone at (c.write_row.ensures.does honest);
       gone = λ is. c.write_row.ensures.gone gone;
       counts = c.write_row.ensures.counts;
       reads = c.write_row.ensures.reads;
     }) in
     (slot_stopped (λ j k on. on) more).told
 
-pub returns-clause-told : goal.returns-clause-told
-returns-clause-told g c =
+pub returns-clause-does : goal.returns-clause-does
+returns-clause-does g c =
     let all : c.loop-row.row ≡ c.args.geometry.now.r = omega (arith, c.r-row-end.ensures.value) in
     (slot_asked
     (λ j k bytes on is.
@@ -50,7 +50,7 @@ returns-clause-told g c =
 pub returns-then-eq-clause-told_gone : goal.returns-then-eq-clause-told_gone
 returns-then-eq-clause-told_gone g c honest =
     let gone = Gone-compared c.write_row.result (sym c.eq.ensures ∙ c.if-eq.true) in
-    slot_told (c.loop-row.invariant.0.told honest).ran (c.write_row.ensures.told honest).ran (c.loop-row.invariant.1 honest)
+    slot_told (c.loop-row.invariant.0.told honest).ran (c.write_row.ensures.does honest).ran (c.loop-row.invariant.1 honest)
     (rw gone at (c.write_row.ensures.told_gone honest))
 
 pub returns-clause-told_gone : goal.returns-clause-told_gone

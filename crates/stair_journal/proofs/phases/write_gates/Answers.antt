@@ -7,8 +7,8 @@ use Rattle.stair_journal.proofs.ToldLemmas.{are_gone_ended, are_gone_wrote}
 use Rattle.stair_journal.proofs.WritesLemmas.{gate_writes_is, gate_writes_there}
 use Rattle.stair_journal.proofs.phases.write_gates.Goals as goal
 
-pub returns-clause-told : goal.returns-clause-told
-returns-clause-told g c =
+pub returns-clause-does : goal.returns-clause-does
+returns-clause-does g c =
     let gate = c.args.gate.now in
     let unwritten = c.write_all-unwritten in
     does_phase (gate_writes gate) c.args.live unwritten.result c.sync_rest.result g.R.Rack.is_honest (record {
@@ -25,7 +25,7 @@ returns-clause-told g c =
     }) (g.R.Rack.history c.sync_rest.new.rack) (g.R.Rack.bads c.sync_rest.new.rack) (g.R.Rack.gones c.sync_rest.new.rack) unwritten.ensures.gone unwritten.ensures.counts c.sync_rest.ensures.gone
     c.sync_rest.ensures.counts c.sync_rest.ensures.well_formed
     (λ honest.
-    Placed-ended (writing_pass (gate_writes gate) c.args.live unwritten.result gate_sector gate _ _ (unwritten.ensures.told honest) (λ j on. gate_writes_there gate j))
-    (λ j k bytes on fine one. (on, (gate_writes_is gate j k bytes one).at)) (c.sync_rest.ensures.told honest))
-    (λ honest. are_gone_ended (unwritten.ensures.told honest).ran (are_gone_wrote (unwritten.ensures.told honest)) (c.sync_rest.ensures.told honest))
-    (λ honest. synced_ended (unwritten.ensures.told honest).ran (c.sync_rest.ensures.told honest))
+    Placed-ended (writing_pass (gate_writes gate) c.args.live unwritten.result gate_sector gate _ _ (unwritten.ensures.does honest) (λ j on. gate_writes_there gate j))
+    (λ j k bytes on fine one. (on, (gate_writes_is gate j k bytes one).at)) (c.sync_rest.ensures.does honest))
+    (λ honest. are_gone_ended (unwritten.ensures.does honest).ran (are_gone_wrote (unwritten.ensures.does honest)) (c.sync_rest.ensures.does honest))
+    (λ honest. synced_ended (unwritten.ensures.does honest).ran (c.sync_rest.ensures.does honest))

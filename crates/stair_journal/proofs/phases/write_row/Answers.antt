@@ -22,7 +22,7 @@ loop-chunk-preserved g c =
       | else-has-via-then-has+else-eq w ↦
           let done = Done-compared w.write.result (sym w.eq.ensures ∙ w.if-eq.false) in
           let called = λ (honest : IsTrue g.R.Rack.is_honest).
-          rw (w.body_sector.ensures, w.cell.ensures.value, done) at (w.write.ensures.told honest) in
+          rw (w.body_sector.ensures, w.cell.ensures.value, done) at (w.write.ensures.does honest) in
           rw w.rack-is (
             row_more c.args.geometry.now c.args.redo.now c.args.stripe.now c.args.slot c.args.row _ c.loop-chunk.chunk reply.Done _ _ _ below
                 c.loop-chunk.invariant.0 ((c.has.ensures.member).0 w.if-has.true) called (λ is. w.write.ensures.gone (done ∙ is))
@@ -39,26 +39,26 @@ loop-chunk-preserved g c =
           )
     ]
 
-pub returns-then-eq-clause-told : goal.returns-then-eq-clause-told
-returns-then-eq-clause-told g c =
+pub returns-then-eq-clause-does : goal.returns-then-eq-clause-does
+returns-then-eq-clause-does g c =
     let below = rw c.n-chunk-end.ensures.value at c.loop-chunk-test.true in
     let gone = Gone-compared c.write.result (sym c.eq.ensures ∙ c.if-eq.true) in
     let more =
     row_more c.args.geometry.now c.args.redo.now c.args.stripe.now c.args.slot c.args.row _ c.loop-chunk.chunk reply.Gone _ _ _ below
     c.loop-chunk.invariant.0 ((c.has.ensures.member).0 c.if-has.true)
-    (λ honest. rw (c.body_sector.ensures, c.cell.ensures.value, gone) at (c.write.ensures.told honest)) (λ is. c.write.ensures.gone gone)
+    (λ honest. rw (c.body_sector.ensures, c.cell.ensures.value, gone) at (c.write.ensures.does honest)) (λ is. c.write.ensures.gone gone)
     c.write.ensures.counts c.write.ensures.reads in
     (slot_stopped (λ j k made. made.0) more).told
 
-pub returns-clause-told : goal.returns-clause-told
-returns-clause-told g c =
+pub returns-clause-does : goal.returns-clause-does
+returns-clause-does g c =
     let all : c.loop-chunk.chunk ≡ c.args.geometry.now.n = omega (arith, c.n-chunk-end.ensures.value) in
     (slot_asked (λ j k bytes made is. rw all (row_end c.args.geometry.now c.args.slot c.args.row j k made)) c.loop-chunk.invariant.0).told
 
 pub returns-then-eq-clause-told_gone : goal.returns-then-eq-clause-told_gone
 returns-then-eq-clause-told_gone g c honest =
     let gone = Gone-compared c.write.result (sym c.eq.ensures ∙ c.if-eq.true) in
-    let called = rw gone at (c.write.ensures.told honest) in
+    let called = rw gone at (c.write.ensures.does honest) in
     slot_told (c.loop-chunk.invariant.0.told honest).ran (calls_ran called) (c.loop-chunk.invariant.1 honest) (are_gone_write _ _ _ _ _ _ called)
 
 pub returns-clause-told_gone : goal.returns-clause-told_gone

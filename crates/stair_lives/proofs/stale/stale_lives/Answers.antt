@@ -6,18 +6,18 @@ use Rattle.stair_lives.proofs.stale.stale_lives.Goals as goal
 
 pub returns : goal.returns
 returns g c = record {
-  never = λ view streams first h calls m last deeds honest since. never_stale view streams first honest h calls m last deeds since;
-  within = λ view streams first x calls m last deeds story watchers y works honest since calm now serves.
-      never_stale_within view streams first honest x calls m last deeds story watchers y works since calm now serves;
-  found = λ view streams first x calls m last deeds story watchers y works honest since calm member is_found.
-      newest_is_found view streams first honest x calls m last deeds story watchers y works since calm member is_found;
+  never = λ view streams first h calls m last trace_items honest since. never_stale view streams first honest h calls m last trace_items since;
+  within = λ view streams first x calls m last trace_items trace watchers y works honest since calm now serves.
+      never_stale_within view streams first honest x calls m last trace_items trace watchers y works since calm now serves;
+  found = λ view streams first x calls m last trace_items trace watchers y works honest since calm member is_found.
+      newest_is_found view streams first honest x calls m last trace_items trace watchers y works since calm member is_found;
   named = left_out_stays;
-  media = λ view streams first h later calls m last deeds j name honest since none out looks.
-      media_stay_out view streams first honest h calls m last deeds since later j name none out looks;
-  media_within = λ view streams first x calls m last deeds story watchers y works honest since calm now serves j name none out.
-      media_stay_out_within view streams first honest x calls m last deeds story watchers y works since calm now serves j name none out;
+  media = λ view streams first h later calls m last trace_items j name honest since none out looks.
+      media_stay_out view streams first honest h calls m last trace_items since later j name none out looks;
+  media_within = λ view streams first x calls m last trace_items trace watchers y works honest since calm now serves j name none out.
+      media_stay_out_within view streams first honest x calls m last trace_items trace watchers y works since calm now serves j name none out;
   begun = never_live_while_begun;
   once = λ view streams first h calls honest. all_name_once view streams first honest h calls;
-  once_within = λ view streams first plan rest old new x y watchers left moment calls borne honest at calm.
-      all_name_once_within view streams first honest plan rest old new x y watchers left moment calls borne at calm;
+  once_within = λ view streams first program rest old new x y watchers left moment calls borne honest at calm.
+      all_name_once_within view streams first honest program rest old new x y watchers left moment calls borne at calm;
 }

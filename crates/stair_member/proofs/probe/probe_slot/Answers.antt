@@ -2,6 +2,6 @@
 use Rattle.stair_rack.specs.Told.{told}
 use Rattle.stair_member.proofs.probe.probe_slot.Goals as goal
 
-pub returns-clause-told : goal.returns-clause-told
-returns-clause-told g c =
-    record { between = told g.R.Rack c.read_place-first.new.rack; first = c.read_place-first.ensures.told; second = c.read_place-second.ensures.told }
+pub returns-clause-does : goal.returns-clause-does
+returns-clause-does g c =
+    record { between = told g.R.Rack c.read_place-first.new.rack; first = c.read_place-first.ensures.does; second = c.read_place-second.ensures.does }

@@ -8,11 +8,11 @@ use Rattle.stair_member.proofs.JudgeLemmas.{first_two}
 use Rattle.stair_member.proofs.SurveyLemmas.{is_surveyed, member_few, member_many, member_rules, stands_current}
 use Rattle.stair_member.proofs.surveying.judge.Goals as goal
 
-pub returns-in_default-clause-told : goal.returns-in_default-clause-told
-returns-in_default-clause-told c f tells g stands = absurd (none-some g (c.in_default.ensures f.image tells.shows g stands))
+pub returns-in_default-clause-does : goal.returns-in_default-clause-does
+returns-in_default-clause-does c f tells g stands = absurd (none-some g (c.in_default.ensures f.image tells.shows g stands))
 
-pub returns-in-Some-first_standing-clause-told : goal.returns-in-Some-first_standing-clause-told
-returns-in-Some-first_standing-clause-told c f tells = (
+pub returns-in-Some-first_standing-clause-does : goal.returns-in-Some-first_standing-clause-does
+returns-in-Some-first_standing-clause-does c f tells = (
   c.in-Some.geometry,
   c.in-Some-first_standing.other,
   first_two f.image c.in-Some.geometry c.in-Some-first_standing.other (c.in-Some.ensures f.image tells.shows)
@@ -21,12 +21,12 @@ returns-in-Some-first_standing-clause-told c f tells = (
   sym c.id-in-Some-first_standing.ensures.value,
 )
 
-pub returns-in_default-current_of-clause-told : goal.returns-in_default-current_of-clause-told
-returns-in_default-current_of-clause-told c f tells g stands =
+pub returns-in_default-current_of-clause-does : goal.returns-in_default-current_of-clause-does
+returns-in_default-current_of-clause-does c f tells g stands =
     absurd (stands_current f.image c.in-Some.geometry (c.in-Some.ensures f.image tells.shows) (c.in_default-current_of.ensures f.image tells.shows))
 
-pub returns-then-count-m-clause-told : goal.returns-then-count-m-clause-told
-returns-then-count-m-clause-told c f tells =
+pub returns-then-count-m-clause-does : goal.returns-then-count-m-clause-does
+returns-then-count-m-clause-does c f tells =
     let current = c.in-Some-current_of.current in
     let g = c.in-Some.geometry in
     let is_current = (c.in-Some-current_of.ensures f.image tells.shows).counts.identity in
@@ -53,8 +53,8 @@ new-requires c =
     c.reasons_of-whys.ensures.absent c.requires.0 c.requires.1 c.reasons_of-whys.ensures.rules c.reasons_of-whys.ensures.size
     c.greatest_draw-drawn.type_inv)
 
-pub returns-clause-told : goal.returns-clause-told
-returns-clause-told c f tells =
+pub returns-clause-does : goal.returns-clause-does
+returns-clause-does c f tells =
     let current = c.in-Some-current_of.current in
     let g = c.in-Some.geometry in
     let is_current = (c.in-Some-current_of.ensures f.image tells.shows).counts.identity in

@@ -1,6 +1,6 @@
 -- The laws are lemmas.
 use Rattle.std.proofs.Common.{arith, refl}
-use Rattle.stair_session.specs.Returning.{NoneReturns}
+use Rattle.stair_invariant.specs.Returning.{NoneReturns}
 use Rattle.stair_array.specs.Mends.{Rebuilds}
 use Rattle.stair_array.proofs.MendsLeadLemmas.{beside_leads, promotions_lead}
 use Rattle.stair_array.proofs.NoneReturnsLemmas.{reads_lead}

@@ -4,12 +4,12 @@ use Rattle.stair_rack.proofs.PassCounts.{Done-compared, Gone-compared}
 use Rattle.stair_array.proofs.NewJournalLemmas.{journal_cut, journal_placed}
 use Rattle.stair_mend.proofs.replacing.lay_out_journal.Goals as goal
 
-pub returns-then-eq-clause-told : goal.returns-then-eq-clause-told
-returns-then-eq-clause-told g c honest =
+pub returns-then-eq-clause-does : goal.returns-then-eq-clause-does
+returns-then-eq-clause-does g c honest =
     let gone = Gone-compared c.write_journal.result (sym c.eq.ensures ∙ c.if-eq.true) in
-    journal_cut c.args.geometry.now c.args.slot _ _ (rw gone at (c.write_journal.ensures.told honest))
+    journal_cut c.args.geometry.now c.args.slot _ _ (rw gone at (c.write_journal.ensures.does honest))
 
-pub returns-clause-told : goal.returns-clause-told
-returns-clause-told g c honest =
+pub returns-clause-does : goal.returns-clause-does
+returns-clause-does g c honest =
     let done = Done-compared c.write_journal.result (sym c.eq.ensures ∙ c.if-eq.false) in
-    journal_placed c.args.geometry.now c.args.slot _ _ _ c.sync.result (rw done at (c.write_journal.ensures.told honest)) (c.sync.ensures.told honest)
+    journal_placed c.args.geometry.now c.args.slot _ _ _ c.sync.result (rw done at (c.write_journal.ensures.does honest)) (c.sync.ensures.does honest)

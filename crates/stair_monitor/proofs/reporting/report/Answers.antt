@@ -1,6 +1,6 @@
 -- The text was refused; or a report was put out, or a part of one.
 use Rattle.std.proofs.Common.{◌≡◌, ◌∙◌, ap, arith, length, sym}
-use Rattle.stair_story.specs.Outside.{views}
+use Rattle.stair_command.specs.Outside.{views}
 use Rattle.stair_monitor.proofs.ReportLemmas.{report_cut, report_done, report_refused}
 use Rattle.stair_monitor.proofs.reporting.report.Goals as goal
 

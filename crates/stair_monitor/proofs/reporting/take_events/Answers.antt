@@ -1,10 +1,10 @@
 -- Byte after byte.
 use Rattle.std.proofs.Common.{Option, ℕ, rules, subst, ◌+◌}
 use Rattle.stair_monitor.proofs.ReportLemmas.{byte_failed, ends_last, line_long, line_refused, line_seen, one_more, same_saw, saw_none, text_refused, too_long}
-use Rattle.stair_story.specs.Outside.{source_view}
-use Rattle.stair_story.specs.Texts.{TakesByte}
+use Rattle.stair_command.specs.Outside.{source_view}
+use Rattle.stair_command.specs.Texts.{TakesByte}
 use Rattle.stair_monitor.proofs.reporting.take_events.Goals as goal
-use Rattle.stair_monitor.proofs.reporting.take_events.Goals.{then-byte-eq10+in_ok-event_of, else-byte-eq10+then-bytes-lt-TEXT_LIMIT}
+use Rattle.stair_monitor.proofs.reporting.take_events.Goals.{then-byte-eq10+in_ok-event_of, else-byte-eq10+then-bytes-lt-MAX_EVENT_LINE}
 
 pub loop-init : goal.loop-init
 loop-init g c =
@@ -36,8 +36,8 @@ returns-in_err-event_of g c =
     (subst (λ (byte : Option ℕ). TakesByte view byte c.loop.input c.next_byte.new.input) c.in-Some.is c.in_ok-byte.ensures.taken) (search rules)
     c.bytes-then-byte-eq10.result.now c.bytes-then-byte-eq10.ensures why c.in_err-event_of.ensures)
 
-pub returns-else-bytes-lt-TEXT_LIMIT : goal.returns-else-bytes-lt-TEXT_LIMIT
-returns-else-bytes-lt-TEXT_LIMIT g c =
+pub returns-else-bytes-lt-MAX_EVENT_LINE : goal.returns-else-bytes-lt-MAX_EVENT_LINE
+returns-else-bytes-lt-MAX_EVENT_LINE g c =
     let view = source_view g.S.Source in
     line_long view c.args.input.now c.loop.counter c.loop.number c.loop.line c.loop.seen c.loop.input c.next_byte.new.input c.loop.invariant
     c.loop-test.true c.in-Some.byte
@@ -55,7 +55,7 @@ loop-preserved g c =
           (subst (λ (byte : Option ℕ). TakesByte view byte c.loop.input c.next_byte.new.input) c.in-Some.is c.in_ok-byte.ensures.taken) (search rules)
           w.bytes-then-byte-eq10.result.now w.bytes-then-byte-eq10.ensures w.in_ok-event_of.field-0 w.in_ok-event_of.ensures w.add.new.self w.add.ensures
           w.clear.new.self w.clear.ensures.text)
-      | else-byte-eq10+then-bytes-lt-TEXT_LIMIT w ↦
+      | else-byte-eq10+then-bytes-lt-MAX_EVENT_LINE w ↦
           same_saw view c.args.input.now (c.loop.counter + 1) c.next_byte.new.input w.number-is w.line-is w.seen-is
           (one_more view c.args.input.now c.loop.counter c.loop.number c.loop.line c.loop.seen c.loop.input c.next_byte.new.input c.loop.invariant
           c.loop-test.true c.in-Some.byte

@@ -1,5 +1,5 @@
 -- So many bytes were taken.
-use Rattle.stair_story.specs.Outside.{source_view}
+use Rattle.stair_command.specs.Outside.{source_view}
 use Rattle.stair_monitor.proofs.ReportLemmas.{SawSoFar}
 use Rattle.stair_monitor.proofs.reporting.take_events.Given as goal
 

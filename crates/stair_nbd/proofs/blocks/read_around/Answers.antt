@@ -1,8 +1,8 @@
 -- What is before the bytes, and what is after them.
 use Rattle.std.proofs.Common.{◌≡◌, ◌∙◌, ◌+◌, ◌-◌, ◌<◌, arith, drop, length, length-drop, length-take, refl, sym, ap, ℕ, false}
 use Rattle.stair_array.specs.Promise.{Opened}
-use Rattle.stair_story.specs.Devices.{device_view, devices}
-use Rattle.stair_story.specs.Rack.{rack_view}
+use Rattle.stair_command.specs.Devices.{device_view, devices}
+use Rattle.stair_command.specs.Rack.{rack_view}
 use Rattle.stair_nbd.specs.Client.{end_block, end_within, first_block, skipped, was_read}
 use Rattle.stair_nbd.proofs.AroundLaws.{around_part, around_whole, ends_in_part, touched_covers}
 use Rattle.stair_nbd.proofs.ReadAroundLaws.{FrontRead, around_done, back_kept, back_refused, front_kept, front_refused, none_before, none_behind, none_kept, other_before, read_before, same_behind}

@@ -1,7 +1,7 @@
 -- One block after the other.
 use Rattle.std.proofs.Common.{◌/◌, arith, length, refl}
 use Rattle.stair_array.specs.Promise.{Opened}
-use Rattle.stair_story.specs.Devices.{devices}
+use Rattle.stair_command.specs.Devices.{devices}
 use Rattle.stair_nbd.proofs.ReadOnLaws.{one_read, read_geometry, read_refused}
 use Rattle.stair_nbd.proofs.TriedLaws.{comes_after}
 use Rattle.stair_nbd.proofs.blocks.read_blocks.Goals as goal

@@ -1,8 +1,8 @@
 -- So many blocks were read.
 use Rattle.std.proofs.Common.{◌/◌, length}
 use Rattle.stair_array.specs.Promise.{Opened}
-use Rattle.stair_story.specs.Devices.{device_view, devices}
-use Rattle.stair_story.specs.Rack.{rack_view}
+use Rattle.stair_command.specs.Devices.{device_view, devices}
+use Rattle.stair_command.specs.Rack.{rack_view}
 use Rattle.stair_nbd.proofs.ReadOnLaws.{ReadSoFar}
 use Rattle.stair_nbd.proofs.blocks.read_blocks.Given as goal
 

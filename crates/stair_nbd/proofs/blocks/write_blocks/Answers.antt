@@ -2,7 +2,7 @@
 use Rattle.std.proofs.Common.{◌∙◌, ◌+◌, ◌-◌, ◌*◌, ◌≡◌, ℕ, ap, arith, drop, length, refl, take}
 use Rattle.stair_array.specs.Promise.{Opened}
 use Rattle.stair_model.specs.Geometry.{Geometry}
-use Rattle.stair_story.specs.Devices.{devices}
+use Rattle.stair_command.specs.Devices.{devices}
 use Rattle.stair_nbd.proofs.TriedLaws.{comes_after}
 use Rattle.stair_nbd.proofs.WriteOnLaws.{all_written, none_written, one_written, piece_at, write_refused}
 use Rattle.stair_nbd.proofs.blocks.write_blocks.Goals as goal

@@ -1,8 +1,8 @@
 -- So many bytes were written.
 use Rattle.std.proofs.Common.{◌-◌, length}
 use Rattle.stair_array.specs.Promise.{Opened}
-use Rattle.stair_story.specs.Devices.{device_view, devices}
-use Rattle.stair_story.specs.Rack.{rack_view}
+use Rattle.stair_command.specs.Devices.{device_view, devices}
+use Rattle.stair_command.specs.Rack.{rack_view}
 use Rattle.stair_nbd.proofs.WriteOnLaws.{WroteSoFar}
 use Rattle.stair_nbd.proofs.blocks.write_blocks.Given as goal
 

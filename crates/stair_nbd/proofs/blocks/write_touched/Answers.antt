@@ -2,8 +2,8 @@
 use Rattle.std.proofs.Common.{◌≡◌, ◌∙◌, ◌+◌, ◌*◌, ◌/◌, ◌≤◌, ℕ, List, ap, arith, drop, length, length-take}
 use Rattle.std.proofs.lemmas.List.{take_at}
 use Rattle.stair_array.specs.Promise.{Opened}
-use Rattle.stair_story.specs.Devices.{devices}
-use Rattle.stair_story.proofs.ComesLaws.{comes_then}
+use Rattle.stair_command.specs.Devices.{devices}
+use Rattle.stair_command.proofs.ComesLaws.{comes_then}
 use Rattle.stair_nbd.specs.Client.{first_block, skipped, touched, writes_on}
 use Rattle.stair_nbd.proofs.AroundLaws.{front_has, touched_covers}
 use Rattle.stair_nbd.proofs.RespondLaws.{writes_same, writes_touched}

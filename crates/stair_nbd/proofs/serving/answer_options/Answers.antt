@@ -1,8 +1,8 @@
 -- The input ended or failed; or an option was no option, named the export, ended the session, or wasn't known.
 use Rattle.std.proofs.Common.{◌≡◌, ◌∙◌, ◌+◌, ◌<◌, ◌≤◌, None, Some, arith, length, rules, sym, take}
 use Rattle.std.proofs.lemmas.List.{length-take-le}
-use Rattle.stair_story.specs.Outside.{views}
-use Rattle.stair_story.specs.Plan.{Over}
+use Rattle.stair_command.specs.Outside.{views}
+use Rattle.stair_command.specs.Program.{Over}
 use Rattle.stair_status.specs.declared.status.Status.TheVariants.{Done}
 use Rattle.stair_nbd.specs.Client.{SESSION_LIMIT, options, status_of_nbd}
 use Rattle.stair_nbd.specs.Wire.{ABORT, EXPORT_NAME, OPTION_LENGTH, read_option}

@@ -1,6 +1,6 @@
 -- The options so far were answered.
 use Rattle.std.proofs.Common.{◌-◌}
-use Rattle.stair_story.specs.Outside.{views}
+use Rattle.stair_command.specs.Outside.{views}
 use Rattle.stair_nbd.specs.Client.{SESSION_LIMIT, options}
 use Rattle.stair_nbd.proofs.OptionLaws.{AnsweredSoFar}
 use Rattle.stair_nbd.proofs.serving.answer_options.Given as goal

@@ -1,9 +1,9 @@
 -- No request came, or none that can be answered; the client goes; or it was answered.
 use Rattle.std.proofs.Common.{false, ◌≡◌, ◌∙◌, ◌+◌, ◌<◌, ◌≤◌, Some, arith, length, refl, rules, sym}
 use Rattle.stair_array.specs.Promise.{Opened}
-use Rattle.stair_story.specs.Devices.{device_view, devices}
-use Rattle.stair_story.specs.Outside.{views}
-use Rattle.stair_story.specs.Rack.{rack_view}
+use Rattle.stair_command.specs.Devices.{device_view, devices}
+use Rattle.stair_command.specs.Outside.{views}
+use Rattle.stair_command.specs.Rack.{rack_view}
 use Rattle.stair_status.specs.declared.status.Status.TheVariants.{Done}
 use Rattle.stair_nbd.specs.Client.{SESSION_LIMIT, is_disconnect, status_of, status_of_nbd}
 use Rattle.stair_nbd.specs.Wire.{REPLY_LENGTH, REQUEST_LENGTH, read_request}

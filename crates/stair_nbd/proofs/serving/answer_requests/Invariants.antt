@@ -1,8 +1,8 @@
 -- The requests so far were answered.
 use Rattle.std.proofs.Common.{◌-◌}
-use Rattle.stair_story.specs.Devices.{device_view}
-use Rattle.stair_story.specs.Outside.{views}
-use Rattle.stair_story.specs.Rack.{rack_view}
+use Rattle.stair_command.specs.Devices.{device_view}
+use Rattle.stair_command.specs.Outside.{views}
+use Rattle.stair_command.specs.Rack.{rack_view}
 use Rattle.stair_nbd.specs.Client.{SESSION_LIMIT}
 use Rattle.stair_nbd.proofs.RequestLaws.{Answered}
 use Rattle.stair_nbd.proofs.serving.answer_requests.Given as goal

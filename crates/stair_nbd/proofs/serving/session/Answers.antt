@@ -1,9 +1,9 @@
 -- The handshake came to an end, with or without a fault; or requests come after it.
 use Rattle.stair_array.specs.Promise.{Opened}
-use Rattle.stair_story.specs.Devices.{device_view, devices}
-use Rattle.stair_story.specs.Outside.{views}
-use Rattle.stair_story.specs.Rack.{rack_view}
-use Rattle.stair_story.proofs.DeviceLaws.{with_then}
+use Rattle.stair_command.specs.Devices.{device_view, devices}
+use Rattle.stair_command.specs.Outside.{views}
+use Rattle.stair_command.specs.Rack.{rack_view}
+use Rattle.stair_command.proofs.DeviceLaws.{with_then}
 use Rattle.stair_nbd.proofs.RequestLaws.{did_fail, none_comes, requests_come, shaken_off}
 use Rattle.stair_nbd.proofs.serving.session.Goals as goal
 

@@ -1,6 +1,6 @@
 -- What is said first wasn't put out; no flags came, or unknown ones; or options come after them.
 use Rattle.std.proofs.Common.{◌∙◌, rules}
-use Rattle.stair_story.specs.Outside.{views}
+use Rattle.stair_command.specs.Outside.{views}
 use Rattle.stair_status.specs.declared.status.Status.TheVariants.{Done}
 use Rattle.stair_nbd.specs.Client.{shakes_hands, status_of_nbd}
 use Rattle.stair_nbd.specs.Wire.{FLAGS_LENGTH}

@@ -1,7 +1,7 @@
 -- Some more came; the input ended within the bytes, or failed; or these were all.
 use Rattle.std.proofs.Common.{◌≡◌, ◌+◌, ◌<◌, ◌≤◌, [], arith, length}
 use Rattle.std.proofs.lemmas.List.{length-take-le}
-use Rattle.stair_story.specs.Outside.{source_view}
+use Rattle.stair_command.specs.Outside.{source_view}
 use Rattle.stair_nbd.proofs.TakeLaws.{dropped_all, dropped_failed, dropped_more, dropped_none, dropped_short}
 use Rattle.stair_nbd.proofs.taking.drop_data.Goals as goal
 

@@ -1,6 +1,6 @@
 -- So many bytes were dropped.
 use Rattle.std.proofs.Common.{◌-◌, ◌≤◌}
-use Rattle.stair_story.specs.Outside.{source_view}
+use Rattle.stair_command.specs.Outside.{source_view}
 use Rattle.stair_nbd.proofs.TakeLaws.{DroppedSoFar}
 use Rattle.stair_nbd.proofs.taking.drop_data.Given as goal
 

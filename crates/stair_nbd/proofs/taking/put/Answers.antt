@@ -1,6 +1,6 @@
 -- All of it was put out, or a part of it.
-use Rattle.stair_story.specs.Outside.{sink_view}
-use Rattle.stair_story.proofs.TalkLaws.{puts_all, puts_part}
+use Rattle.stair_command.specs.Outside.{sink_view}
+use Rattle.stair_command.proofs.TalkLaws.{puts_all, puts_part}
 use Rattle.stair_nbd.proofs.taking.put.Goals as goal
 
 pub returns-in-Ok : goal.returns-in-Ok

@@ -1,8 +1,8 @@
 -- The header lies right before the bytes, and both are put out.
 use Rattle.std.proofs.Common.{◌≡◌, ◌∙◌, ◌+◌, ◌++◌, List, ℕ, ap, arith, drop, length, refl, subst}
-use Rattle.stair_story.specs.Outside.{sink_view}
-use Rattle.stair_story.specs.Plan.{Put}
-use Rattle.stair_story.specs.Talks.{PutsTo}
+use Rattle.stair_command.specs.Outside.{sink_view}
+use Rattle.stair_command.specs.Program.{Put}
+use Rattle.stair_command.specs.Talks.{PutsTo}
 use Rattle.stair_nbd.specs.Sessions.{after_done, data_of}
 use Rattle.stair_nbd.specs.Wire.{REPLY_LENGTH, simple_reply}
 use Rattle.stair_nbd.proofs.ReplyLaws.{one_piece}

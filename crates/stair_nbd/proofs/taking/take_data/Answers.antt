@@ -1,6 +1,6 @@
 -- All of the bytes came; the input ended within them; or it failed.
 use Rattle.std.proofs.Common.{◌<◌, length, rules}
-use Rattle.stair_story.specs.Outside.{source_view}
+use Rattle.stair_command.specs.Outside.{source_view}
 use Rattle.stair_nbd.proofs.TakeLaws.{data_all, data_failed, data_short}
 use Rattle.stair_nbd.proofs.taking.take_data.Goals as goal
 

@@ -1,7 +1,7 @@
 -- One more byte came; the input ended; or it failed.
 use Rattle.std.proofs.Common.{List, ℕ}
-use Rattle.stair_story.specs.Outside.{source_view}
-use Rattle.stair_story.specs.Plan.{Over}
+use Rattle.stair_command.specs.Outside.{source_view}
+use Rattle.stair_command.specs.Program.{Over}
 use Rattle.stair_status.specs.declared.status.Status.TheVariants.{BadMessage, Done}
 use Rattle.stair_nbd.proofs.TakeLaws.{took_all, took_none, took_part}
 use Rattle.stair_nbd.proofs.taking.take_end.Goals as goal

@@ -1,5 +1,5 @@
 -- The header came whole; the input ended before it, or within it; or it failed.
-use Rattle.stair_story.specs.Outside.{source_view}
+use Rattle.stair_command.specs.Outside.{source_view}
 use Rattle.stair_nbd.specs.Client.{ends_in_header}
 use Rattle.stair_nbd.proofs.TakeLaws.{header_none, header_short, took_all, took_none}
 use Rattle.stair_nbd.proofs.taking.take_header.Goals as goal

@@ -1,6 +1,6 @@
 -- The bytes that are to be written are in the buffer.
 use Rattle.std.proofs.Common.{◌∙◌, sym}
-use Rattle.stair_story.specs.Outside.{source_view}
+use Rattle.stair_command.specs.Outside.{source_view}
 use Rattle.stair_nbd.proofs.TakeLaws.{data_fits, request_kept}
 use Rattle.stair_nbd.proofs.taking.take_request_data.Goals as goal
 

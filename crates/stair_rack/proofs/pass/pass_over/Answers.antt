@@ -16,7 +16,7 @@ loop-slot-preserved g c =
           let on = (c.has.ensures.member).0 w.if-has.true in
           rw (w.gone-is, w.rack-is)
           (pass_gone _ _ _ _ _ _ _ _ c.has.ensures.well_formed c.loop-slot.invariant _ w.add.ensures.well_formed w.add.ensures.members on
-          (record { told = λ honest. rw gone at (w.turn.ensures.told honest); counts = w.turn.ensures.counts; reads = w.turn.ensures.reads })
+          (record { told = λ honest. rw gone at (w.turn.ensures.does honest); counts = w.turn.ensures.counts; reads = w.turn.ensures.reads })
           (w.turn.ensures.gone gone))
       | else-has w ↦
           elim w.else-has.branch [
@@ -25,7 +25,7 @@ loop-slot-preserved g c =
                 let on = (c.has.ensures.member).0 v.if-has.true in
                 rw (w.gone-is, w.rack-is, v.rack-is)
                 (pass_done _ _ _ _ _ _ _ _ c.has.ensures.well_formed c.loop-slot.invariant on
-                (record { told = λ honest. rw done at (v.turn.ensures.told honest); counts = v.turn.ensures.counts; reads = v.turn.ensures.reads }))
+                (record { told = λ honest. rw done at (v.turn.ensures.does honest); counts = v.turn.ensures.counts; reads = v.turn.ensures.reads }))
             | else-has-via-else-has v ↦
                 let off = false_from_ne_true _ (λ has. false≢true (sym v.if-has.false ∙ (c.has.ensures.member).1 has)) in
                 rw (w.gone-is, w.rack-is, v.rack-is) (pass_skipped _ _ _ _ _ _ _ c.has.ensures.well_formed c.loop-slot.invariant off)

@@ -4,7 +4,7 @@ use Rattle.stair_reinsert_examples.proofs.CutPromotion as promotion
 use Rattle.stair_reinsert_examples.proofs.FenceSurvey as fence
 use Rattle.stair_reinsert_examples.proofs.FencesSurvey as fences_survey
 use Rattle.stair_reinsert_examples.proofs.PromotionSurvey as promotion_survey
-use Rattle.stair_return.proofs.SurveyLemmas.{not_misled}
+use Rattle.stair_reinsert.proofs.SurveyLemmas.{not_misled}
 use Rattle.stair_reinsert_examples.proofs.examples.misled_laws.Goals as goal
 
 pub returns-clause-counted : goal.returns-clause-counted

@@ -16,7 +16,7 @@ returns-clause-consistent c = λ s old new history consistent ran. looked_consis
 
 pub returns-clause-however : goal.returns-clause-however
 returns-clause-however c = λ s h it.
-    (it.is.encodings, λ image left. consistent_by s it.is.encodings it.holders it.since image (it.is.each image left))
+    (it.is.encodings, λ image left. consistent_by s it.is.encodings it.current_media it.since image (it.is.each image left))
 
 pub returns-clause-made : goal.returns-clause-made
 returns-clause-made c = left_consistent

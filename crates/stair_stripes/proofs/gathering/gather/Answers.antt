@@ -9,13 +9,13 @@ use Rattle.stair_stripes.proofs.ReadCounts.{stripe_few}
 use Rattle.stair_stripes.proofs.ReadsLemmas.{chunks_same}
 use Rattle.stair_stripes.proofs.gathering.gather.Goals as goal
 
-pub returns-clause-told : goal.returns-clause-told
-returns-clause-told g c =
+pub returns-clause-does : goal.returns-clause-does
+returns-clause-does g c =
     gathers_same c.args.geometry.now c.args.live c.args.stripe (HasCell c.cells.result) (IsCellOf c.args.geometry.now) c.gather_cells.result
     c.args.into.now c.gather_cells.new.into
     (told g.R.Rack c.args.rack.now)
     (told g.R.Rack c.gather_cells.new.rack)
-    c.cells.ensures.members c.gather_cells.ensures.told
+    c.cells.ensures.members c.gather_cells.ensures.does
 
 pub returns-clause-reads : goal.returns-clause-reads
 returns-clause-reads g c =

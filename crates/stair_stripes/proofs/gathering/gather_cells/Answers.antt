@@ -46,8 +46,8 @@ loop-slot-preserved g c =
           })
     ]
 
-pub returns-clause-told : goal.returns-clause-told
-returns-clause-told g c =
+pub returns-clause-does : goal.returns-clause-does
+returns-clause-does g c =
     let all : c.loop-slot.slot ≡ c.args.geometry.now.n = omega arith in
     before_all c.args.geometry.now c.args.live c.args.stripe c.args.wanted.now c.loop-slot.gathered c.args.into.now c.loop-slot.into
     (told g.R.Rack c.args.rack.now)

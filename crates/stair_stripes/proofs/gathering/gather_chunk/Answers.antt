@@ -2,7 +2,7 @@
 use Rattle.std.proofs.Common.{◌≡◌, ◌+◌, sym, ◌∙◌, refl, arith}
 use Rattle.std.proofs.lemmas.Bool.{false≢true}
 use Rattle.stair_rack.specs.declared.rack.Got.TheVariants as got
-use Rattle.stair_rack.proofs.TellingLemmas.{gone_to_read, later_called, reading_bad, reading_good}
+use Rattle.stair_rack.proofs.RackStateLemmas.{gone_to_read, later_called, reading_bad, reading_good}
 use Rattle.stair_stripes.proofs.ReadCounts.{read_more, read_no_more, read_slot}
 use Rattle.stair_stripes.proofs.SoFarLemmas.{goes_bad, goes_ended, goes_good, goes_lost, goes_skipped}
 use Rattle.stair_stripes.proofs.gathering.gather_chunk.Goals as goal
@@ -13,7 +13,7 @@ loop-row-preserved g c =
     let so_far = c.loop-row.invariant in
     elim c.if-has.branch [
       | then-has+in-Good w ↦
-          let told = rw w.cell_sector.ensures at w.in-Good.ensures.told in
+          let told = rw w.cell_sector.ensures at w.in-Good.ensures.does in
           let good = rw w.cell_sector.ensures at w.in-Good.ensures.good in
           let formed = rw w.put.ensures.value at w.put.ensures.well_formed in
           rw (w.rack-is, w.into-is, w.gathered-is, w.put.ensures.value)
@@ -27,7 +27,7 @@ loop-row-preserved g c =
             reads = read_more c.args.wanted.now c.args.slot c.loop-row.row _ _ so_far.reads _ (c.has.ensures.member.0 w.if-has.true) got.Good w.in-Good.ensures.reads;
           })
       | then-has+in-Bad w ↦
-          let told = rw w.cell_sector.ensures at w.in-Bad.ensures.told in
+          let told = rw w.cell_sector.ensures at w.in-Bad.ensures.does in
           rw (w.rack-is, w.into-is, w.gathered-is)
           (record {
             goes =
@@ -53,7 +53,7 @@ loop-row-preserved g c =
 
 pub returns-in-Gone-clause-gathered : goal.returns-in-Gone-clause-gathered
 returns-in-Gone-clause-gathered g c =
-    let told = rw c.cell_sector.ensures at c.in-Gone.ensures.told in
+    let told = rw c.cell_sector.ensures at c.in-Gone.ensures.does in
     goes_lost _ _ _ c.requires.wanted _ c.loop-row.row _ _ _ _ _ _ c.loop-row.invariant.goes _ (omega arith) c.requires.slot_in
     (c.if-has.ensures.member.0 refl) (later_called _ _ _ _ _ _ _ _ _ told c.in-Gone.ensures.counts) got.Gone told refl c.lose_chunk.new.gathered
     c.lose_chunk.ensures.formed_gone c.lose_chunk.ensures.gone c.lose_chunk.ensures.erased

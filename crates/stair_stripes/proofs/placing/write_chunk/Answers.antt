@@ -21,7 +21,7 @@ loop-row-preserved g c =
       | else-has-via-then-has+else-eq w ↦
           let done = Done-compared w.write.result (sym w.eq.ensures ∙ w.if-eq.false) in
           let called = λ (honest : IsTrue g.R.Rack.is_honest).
-          rw (w.cell_sector.ensures, w.cell.ensures.value, done) at (w.write.ensures.told honest) in
+          rw (w.cell_sector.ensures, w.cell.ensures.value, done) at (w.write.ensures.does honest) in
           rw w.rack-is (
             chunk_more c.args.geometry.now c.args.redo.now c.args.stripe.now c.args.slot _ c.loop-row.row reply.Done _ _ _
                 c.loop-row.invariant.0 ((c.has.ensures.member).0 w.if-has.true) called (λ is. w.write.ensures.gone (done ∙ is))
@@ -38,18 +38,18 @@ loop-row-preserved g c =
           )
     ]
 
-pub returns-then-eq-clause-told : goal.returns-then-eq-clause-told
-returns-then-eq-clause-told g c =
+pub returns-then-eq-clause-does : goal.returns-then-eq-clause-does
+returns-then-eq-clause-does g c =
     let gone = Gone-compared c.write.result (sym c.eq.ensures ∙ c.if-eq.true) in
     let more =
     chunk_more c.args.geometry.now c.args.redo.now c.args.stripe.now c.args.slot _ c.loop-row.row reply.Gone _ _ _ c.loop-row.invariant.0
     ((c.has.ensures.member).0 c.if-has.true)
-    (λ honest. rw (c.cell_sector.ensures, c.cell.ensures.value, gone) at (c.write.ensures.told honest)) (λ is. c.write.ensures.gone gone)
+    (λ honest. rw (c.cell_sector.ensures, c.cell.ensures.value, gone) at (c.write.ensures.does honest)) (λ is. c.write.ensures.gone gone)
     c.write.ensures.counts c.write.ensures.reads in
     (slot_stopped (λ j k on. on) more).told
 
-pub returns-clause-told : goal.returns-clause-told
-returns-clause-told g c =
+pub returns-clause-does : goal.returns-clause-does
+returns-clause-does g c =
     let all : c.loop-row.row ≡ c.args.geometry.now.r = omega (arith, c.r-row-end.ensures.value) in
     (slot_asked
     (λ j k bytes on is.
@@ -59,7 +59,7 @@ returns-clause-told g c =
 pub returns-then-eq-clause-told_gone : goal.returns-then-eq-clause-told_gone
 returns-then-eq-clause-told_gone g c honest =
     let gone = Gone-compared c.write.result (sym c.eq.ensures ∙ c.if-eq.true) in
-    let called = rw gone at (c.write.ensures.told honest) in
+    let called = rw gone at (c.write.ensures.does honest) in
     slot_told (c.loop-row.invariant.0.told honest).ran (calls_ran called) (c.loop-row.invariant.1 honest) (are_gone_write _ _ _ _ _ _ called)
 
 pub returns-clause-told_gone : goal.returns-clause-told_gone

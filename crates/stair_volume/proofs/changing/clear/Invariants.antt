@@ -1,8 +1,8 @@
 -- All blocks before this one are zeros.
 use Rattle.std.proofs.Common.{◌-◌}
 use Rattle.stair_array.specs.Promise.{Opened}
-use Rattle.stair_story.specs.Devices.{device_view, devices}
-use Rattle.stair_story.specs.Rack.{rack_view}
+use Rattle.stair_command.specs.Devices.{device_view, devices}
+use Rattle.stair_command.specs.Rack.{rack_view}
 use Rattle.stair_volume.proofs.ClearLaws.{ClearedSoFar}
 use Rattle.stair_volume.proofs.changing.clear.Given as goal
 

@@ -1,7 +1,7 @@
 -- So many lines were put out.
 use Rattle.std.proofs.Common.{drop}
-use Rattle.stair_story.specs.Outside.{sink_view}
-use Rattle.stair_story.specs.Talks.{PutsTo}
+use Rattle.stair_command.specs.Outside.{sink_view}
+use Rattle.stair_command.specs.Talks.{PutsTo}
 use Rattle.stair_volume.specs.Commands.{lists}
 use Rattle.stair_volume.proofs.commands.list.Given as goal
 

@@ -1,6 +1,6 @@
 -- One block after the other.
 use Rattle.std.proofs.Common.{arith, refl, Err}
-use Rattle.stair_story.specs.Plan.{Over, Plan}
+use Rattle.stair_command.specs.Program.{Over, Program}
 use Rattle.stair_volume.specs.Commands.{status_of_volume}
 use Rattle.stair_volume.specs.declared.fault.VolumeFault.TheVariants as fault
 use Rattle.stair_volume.proofs.CommandLaws.{did_fail}
@@ -22,7 +22,7 @@ returns-in_err-put-clause-means g c =
     let why = c.in_err-put.field-0.0 in
     did_fail _ _ _ _ _ _ of.n _ _ _ c.from_residual-in_err-put.result why c.from_residual-in_err-put.ensures.1
     (next_put c.loop-done.invariant c.loop-done-test.true c.read.new.into c.read.result c.read.ensures.taken c.in_ok-read.was
-    (λ (later : Plan). Over (status_of_volume of.n why)) (c.in_err-put.ensures of.n))
+    (λ (later : Program). Over (status_of_volume of.n why)) (c.in_err-put.ensures of.n))
 
 pub loop-done-preserved : goal.loop-done-preserved
 loop-done-preserved g c =

@@ -1,8 +1,8 @@
 -- So many blocks were put out.
 use Rattle.stair_array.specs.Promise.{Opened}
-use Rattle.stair_story.specs.Devices.{device_view, devices}
-use Rattle.stair_story.specs.Outside.{sink_alone}
-use Rattle.stair_story.specs.Rack.{rack_view}
+use Rattle.stair_command.specs.Devices.{device_view, devices}
+use Rattle.stair_command.specs.Outside.{sink_alone}
+use Rattle.stair_command.specs.Rack.{rack_view}
 use Rattle.stair_volume.proofs.TransferLaws.{PutSoFar}
 use Rattle.stair_volume.proofs.commands.put_blocks.Given as goal
 

@@ -3,7 +3,7 @@ use Rattle.std.proofs.Common.{◌∙◌, ◌≡◌, Err, None, Some, ap, arith, 
 use Rattle.stair_conf.specs.declared.job.VolumeJob.{VolumeJob}
 use Rattle.stair_model.specs.Geometry.{block_count}
 use Rattle.stair_model.proofs.LimitLaws.{block_count_few}
-use Rattle.stair_story.specs.Plan.{Over}
+use Rattle.stair_command.specs.Program.{Over}
 use Rattle.stair_status.specs.declared.status.Status.TheVariants.{Done, NoTable}
 use Rattle.stair_array.specs.Machine.{ReadBlock}
 use Rattle.stair_volume.specs.Commands.{on_table}

@@ -1,9 +1,9 @@
 -- What each command does.
 use Rattle.std.proofs.Common.{◌∙◌, [], Some, ap, refl}
 use Rattle.stair_conf.specs.declared.job.VolumeJob.{VolumeJob}
-use Rattle.stair_story.specs.Outside.{sink_view, source_view}
-use Rattle.stair_story.specs.Plan.{Over}
-use Rattle.stair_story.specs.Transfers.{reads, writes}
+use Rattle.stair_command.specs.Outside.{sink_view, source_view}
+use Rattle.stair_command.specs.Program.{Over}
+use Rattle.stair_command.specs.Transfers.{reads, writes}
 use Rattle.stair_status.specs.declared.status.Status.TheVariants.{Done, TableThere}
 use Rattle.stair_volume.specs.Commands.{on_table}
 use Rattle.stair_volume.specs.declared.fault.VolumeFault.TheVariants as fault

@@ -1,4 +1,4 @@
--- The laws, by what is so along the plan.
+-- The laws, by what is so along the program.
 use Rattle.stair_volume.proofs.AgreeLaws.{read_alike}
 use Rattle.stair_volume.proofs.OpenedLaws.{cut_goes, finished, goes_so, reached}
 use Rattle.stair_volume.specs.Volumes.{CutsAreSafe, DoneIsFinished, VolumesStay}

@@ -1,11 +1,11 @@
 -- All of it was put out, or a part of it.
 use Rattle.std.proofs.Common.{subst, sym}
-use Rattle.stair_story.specs.Fault.{status_of_fault}
-use Rattle.stair_story.specs.Outside.{sink_view}
-use Rattle.stair_story.specs.Plan.{Over, Put}
-use Rattle.stair_story.specs.Talks.{PutsTo}
-use Rattle.stair_story.specs.declared.fault.Fault.{Fault}
-use Rattle.stair_story.proofs.TalkLaws.{puts_all, puts_part}
+use Rattle.stair_command.specs.Fault.{status_of_fault}
+use Rattle.stair_command.specs.Outside.{sink_view}
+use Rattle.stair_command.specs.Program.{Over, Put}
+use Rattle.stair_command.specs.Talks.{PutsTo}
+use Rattle.stair_command.specs.declared.fault.Fault.{Fault}
+use Rattle.stair_command.proofs.TalkLaws.{puts_all, puts_part}
 use Rattle.stair_volume.proofs.streams.put.Goals as goal
 
 pub returns-in-Ok : goal.returns-in-Ok

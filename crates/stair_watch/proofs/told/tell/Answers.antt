@@ -13,8 +13,8 @@ loop-at-preserved g c = rw c.remove.ensures.items
     (turn_leaves _ _ _ _ _ _ _ c.loop-at.invariant (omega (arith, c.loop-at-test.true, c.len.ensures))
     c.index_mut.ensures.value c.in-Leave.ensures.heard (c.in-Leave.ensures.leaves refl))
 
-pub returns-clause-told : goal.returns-clause-told
-returns-clause-told g c = at_last _ _ _ _ _ c.loop-at.invariant (omega (arith, c.loop-at-test.false, c.len.ensures))
+pub returns-clause-does : goal.returns-clause-does
+returns-clause-does g c = at_last _ _ _ _ _ c.loop-at.invariant (omega (arith, c.loop-at-test.false, c.len.ensures))
 
 pub returns-clause-stay : goal.returns-clause-stay
 returns-clause-stay g c =

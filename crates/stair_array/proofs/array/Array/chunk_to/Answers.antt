@@ -1,7 +1,7 @@
 -- The next chunk was written, or its slot fell, or that was refused.
 use Rattle.std.proofs.Common.{◌<◌, ap, arith, subst, sym, None}
 use Rattle.stair_rack.specs.Told.{told}
-use Rattle.stair_session.specs.Courses.{point}
+use Rattle.stair_invariant.specs.Effects.{snapshot}
 use Rattle.stair_array.specs.Arrays.{OpenArray, state_of}
 use Rattle.stair_array.specs.Promise.{running}
 use Rattle.stair_array.proofs.RebuildingLemmas.{next_rebuilt, next_same, under_past}
@@ -40,7 +40,7 @@ invariant_of-self g c = (
 pub returns-clause-stays : goal.returns-clause-stays
 returns-clause-stays g c =
     rw (← c.self.view_is)
-    (part_down 0 (point c.self.inside.session.member (told g.R.Rack c.args.rack.now))
-    (point c.chunk_to-written.new.self.member (told g.R.Rack c.chunk_to-written.new.rack))
-    (next_part c.args.slot c.args.stripe _ (point c.self.inside.session.member (told g.R.Rack c.args.rack.now))
-    (point c.chunk_to-written.new.self.member (told g.R.Rack c.chunk_to-written.new.rack)) c.chunk_to-written.ensures.told c.geometry.ensures.rules))
+    (part_down 0 (snapshot c.self.inside.session.member (told g.R.Rack c.args.rack.now))
+    (snapshot c.chunk_to-written.new.self.member (told g.R.Rack c.chunk_to-written.new.rack))
+    (next_part c.args.slot c.args.stripe _ (snapshot c.self.inside.session.member (told g.R.Rack c.args.rack.now))
+    (snapshot c.chunk_to-written.new.self.member (told g.R.Rack c.chunk_to-written.new.rack)) c.chunk_to-written.ensures.does c.geometry.ensures.rules))

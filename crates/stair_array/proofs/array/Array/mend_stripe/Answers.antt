@@ -2,17 +2,17 @@
 use Rattle.std.proofs.Common.{ap, arith, ◌∙◌}
 use Rattle.stair_model.specs.Geometry.{Geometry}
 use Rattle.stair_rack.specs.Told.{told}
-use Rattle.stair_session.specs.Courses.{point}
+use Rattle.stair_invariant.specs.Effects.{snapshot}
 use Rattle.stair_array.proofs.MendingLemmas.{scrub_past}
 use Rattle.stair_array.proofs.RebuildingLemmas.{under_after}
 use Rattle.stair_array.proofs.array.Array.mend_stripe.Goals as goal
 
-pub returns-then-stripe-limit-clause-told : goal.returns-then-stripe-limit-clause-told
-returns-then-stripe-limit-clause-told g c none =
+pub returns-then-stripe-limit-clause-does : goal.returns-then-stripe-limit-clause-does
+returns-then-stripe-limit-clause-does g c none =
     let limit = c.from-then-stripe-limit-2.ensures in
     let past = c.if-stripe-limit.true in
     rw (← c.self.view_is)
-    (scrub_past c.args.stripe _ _ (point c.self.inside.session.member (told g.R.Rack c.args.rack.now)) c.from-then-stripe-limit.ensures
+    (scrub_past c.args.stripe _ _ (snapshot c.self.inside.session.member (told g.R.Rack c.args.rack.now)) c.from-then-stripe-limit.ensures
     (limit ∙ c.stripes-limit.ensures.value ∙ ap (λ (k : Geometry). k.stripes) c.geometry.ensures.value) (omega (arith, limit, past)))
 
 pub invariant_of-self-in_err-cells : goal.invariant_of-self-in_err-cells

@@ -3,7 +3,7 @@ use Rattle.std.proofs.Common.{◌≡◌, ◌/◌, ◌%◌, ◌<◌, ℕ, List, l
 use Rattle.std.proofs.lemmas.Nat.{mod_below}
 use Rattle.stair_model.specs.Geometry.{data_cells}
 use Rattle.stair_rack.specs.Told.{told}
-use Rattle.stair_session.specs.Courses.{point}
+use Rattle.stair_invariant.specs.Effects.{snapshot}
 use Rattle.stair_array.specs.Arrays.{outcome}
 use Rattle.stair_array.specs.Calls.{AreOfBlocks, WritesBlocks}
 use Rattle.stair_array.proofs.WritingLemmas.{one_block}
@@ -16,13 +16,13 @@ write_blocks-requires-clause-together g c =
     let below : c.args.block % u < u = mod_below c.args.block u c.geometry.ensures.rules.array.limits.blocks in
     record { some = omega (arith, one); within = omega (arith, one, below) }
 
-pub returns-clause-told : goal.returns-clause-told
-returns-clause-told g c none =
+pub returns-clause-does : goal.returns-clause-does
+returns-clause-does g c none =
     subst
     (λ (contents : List (List ℕ)).
-    WritesBlocks c.args.block contents (outcome c.write_blocks.result) (point c.args.self.now.member (told g.R.Rack c.args.rack.now))
-    (point c.write_blocks.new.self.member (told g.R.Rack c.write_blocks.new.rack)))
-    (one_block c.args.from.now c.told-from) (c.write_blocks.ensures.told none)
+    WritesBlocks c.args.block contents (outcome c.write_blocks.result) (snapshot c.args.self.now.member (told g.R.Rack c.args.rack.now))
+    (snapshot c.write_blocks.new.self.member (told g.R.Rack c.write_blocks.new.rack)))
+    (one_block c.args.from.now c.told-from) (c.write_blocks.ensures.does none)
 
 pub returns-clause-once : goal.returns-clause-once
 returns-clause-once g c cells of =

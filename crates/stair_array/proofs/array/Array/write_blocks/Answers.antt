@@ -5,7 +5,7 @@ use Rattle.std.proofs.lemmas.List.Elements.{All-from_get_or}
 use Rattle.stair_model.specs.Geometry.{Geometry}
 use Rattle.stair_model.specs.Stripe.{IsSector}
 use Rattle.stair_rack.specs.Told.{told}
-use Rattle.stair_session.specs.Courses.{point}
+use Rattle.stair_invariant.specs.Effects.{snapshot}
 use Rattle.stair_array.specs.Arrays.{OpenArray}
 use Rattle.stair_array.specs.Calls.{AreOfBlocks}
 use Rattle.stair_array.proofs.NewsLemmas.{write_news}
@@ -13,16 +13,16 @@ use Rattle.stair_array.proofs.WritingLemmas.{blocks_sectors, frozen_write, writt
 use Rattle.stair_array.proofs.RebuildingLemmas.{under_after}
 use Rattle.stair_array.proofs.array.Array.write_blocks.Goals as goal
 
-pub returns-in_err-place_of-clause-told : goal.returns-in_err-place_of-clause-told
-returns-in_err-place_of-clause-told g c none =
+pub returns-in_err-place_of-clause-does : goal.returns-in_err-place_of-clause-does
+returns-in_err-place_of-clause-does g c none =
     rw (← c.self.view_is)
-    (written_past _ _ (point c.self.inside.session.member (told g.R.Rack c.args.rack.now)) _ _ c.in_err-place_of.ensures.past
+    (written_past _ _ (snapshot c.self.inside.session.member (told g.R.Rack c.args.rack.now)) _ _ c.in_err-place_of.ensures.past
     c.in_err-place_of.ensures.fault c.from_residual.ensures.1)
 
-pub returns-then-frozen-clause-told : goal.returns-then-frozen-clause-told
-returns-then-frozen-clause-told g c none =
+pub returns-then-frozen-clause-does : goal.returns-then-frozen-clause-does
+returns-then-frozen-clause-does g c none =
     rw (← c.self.view_is)
-    (frozen_write _ _ (point c.self.inside.session.member (told g.R.Rack c.args.rack.now)) c.in_ok-place_of.ensures.place.below
+    (frozen_write _ _ (snapshot c.self.inside.session.member (told g.R.Rack c.args.rack.now)) c.in_ok-place_of.ensures.place.below
     (sym c.if-frozen.ensures.value))
 
 pub write-written-requires-clause-sectors : goal.write-written-requires-clause-sectors

@@ -40,4 +40,4 @@ returns-clause-kept g c =
 
 pub returns-clause-reason : goal.returns-clause-reason
 returns-clause-reason g c gone =
-    changed_says c.args.self.now _ _ _ _ _ (λ was slot. IsSome was.file → IsSome slot.reason) (changes g c) (c.sync.ensures.told gone)
+    changed_says c.args.self.now _ _ _ _ _ (λ was slot. IsSome was.file → IsSome slot.reason) (changes g c) (c.sync.ensures.does gone)

@@ -48,4 +48,4 @@ returns-clause-kept g c =
 pub returns-clause-reason : goal.returns-clause-reason
 returns-clause-reason g c gone =
     changed_says c.args.self.now _ _ _ _ _ (λ was slot. IsSome was.file → c.args.sector < was.sectors → IsSome slot.reason)
-    (changes g c) (c.write.ensures.told gone)
+    (changes g c) (c.write.ensures.does gone)

@@ -29,7 +29,7 @@ invariant_of-self c =
     let full : r.room ≤ vec_len r.log = omega arith in
     let told : c.tell.new.late.items ≡ (if asks_to_let_go c.args.ask.now c.index_mut-place.result.now then r.late.items ++ c.args.slot ∷ []
     else r.late.items) =
-    c.tell.ensures.told ∙ ap (λ (t : Bool). if t then r.late.items ++ c.args.slot ∷ [] else r.late.items) c.asks_to_let_go-lets_go.ensures in
+    c.tell.ensures.does ∙ ap (λ (t : Bool). if t then r.late.items ++ c.args.slot ∷ [] else r.late.items) c.asks_to_let_go-lets_go.ensures in
     let refused = refused_of r c.args.slot c.index_mut-place.result.now c.requires c.self.invariant (spent_room r full) c.index_mut-place.ensures.value
     c.args.ask.now c.answer-refusal.new.self c.answer-refusal.result c.tell.new.late.items c.answer-refusal.ensures.answer c.answer-refusal.ensures.after told in
     IsSound-spent r _ c.args.slot c.answer-refusal.result c.self.invariant
@@ -45,7 +45,7 @@ returns-then-len-self c =
     let full : r.room ≤ vec_len r.log = omega arith in
     let told : c.tell.new.late.items ≡ (if asks_to_let_go c.args.ask.now c.index_mut-place.result.now then r.late.items ++ c.args.slot ∷ []
     else r.late.items) =
-    c.tell.ensures.told ∙ ap (λ (t : Bool). if t then r.late.items ++ c.args.slot ∷ [] else r.late.items) c.asks_to_let_go-lets_go.ensures in
+    c.tell.ensures.does ∙ ap (λ (t : Bool). if t then r.late.items ++ c.args.slot ∷ [] else r.late.items) c.asks_to_let_go-lets_go.ensures in
     let refused = refused_of r c.args.slot c.index_mut-place.result.now c.requires c.self.invariant (spent_room r full) c.index_mut-place.ensures.value
     c.args.ask.now c.answer-refusal.new.self c.answer-refusal.result c.tell.new.late.items c.answer-refusal.ensures.answer c.answer-refusal.ensures.after told in
     let is =

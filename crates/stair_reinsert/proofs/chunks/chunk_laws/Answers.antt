@@ -1,0 +1,14 @@
+-- The law is a lemma of chunks, whether media come back or not.
+use Rattle.stair_invariant.specs.Returning.{AnyReturns}
+use Rattle.stair_mend.proofs.ChunkLaws.{chunk_cuts}
+use Rattle.stair_reinsert.proofs.BesideLead.{beside_leads}
+use Rattle.stair_reinsert.proofs.PromotionsLead.{promotions_lead}
+use Rattle.stair_reinsert.proofs.ReadsLead.{reads_lead}
+use Rattle.stair_reinsert.proofs.chunks.chunk_laws.Goals as goal
+
+pub returns : goal.returns
+returns c = record {
+  cut = λ m last rebuild known j t answer x y before s c at below wrote honest history state moment calm.
+      chunk_cuts AnyReturns reads_lead beside_leads promotions_lead m last rebuild known j t answer x y before s at below wrote honest history state c
+      moment calm;
+}

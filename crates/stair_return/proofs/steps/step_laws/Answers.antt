@@ -1,8 +1,0 @@
--- The law is a lemma of the array's steps, whether media come back or not.
-use Rattle.stair_session.specs.Returning.{AnyReturns}
-use Rattle.stair_array.proofs.StepsLead.{promises}
-use Rattle.stair_return.proofs.AnyReturnsLead.{any_returns_leads}
-use Rattle.stair_return.proofs.steps.step_laws.Goals as goal
-
-pub returns : goal.returns
-returns c = record { every = promises AnyReturns any_returns_leads }
