@@ -1,4 +1,4 @@
--- What is read of a line, beside the event that it spells.
+-- What reading a line finds, as well as the event that it spells.
 use Rattle.std.proofs.Common.{◌≡◌, ◌≢◌, ◌∙◌, ℕ, ◌<◌, List, ◌∷◌, ◌++◌, Option, Some, None, Result, Ok, Err, length, get_or, refl, sym, ap, subst, arith}
 use Rattle.std.specs.Prelude.{All, MatchResult, codes}
 use Rattle.std.specs.Int.{IsInRange}
@@ -88,7 +88,7 @@ named name line word values n parts is number = record {
 
 -- ---- repairs
 
--- what stands after a front that is taken off
+-- the rest after a front that is taken off
 pub stripped : (front bytes rest : List ℕ) → StripsPrefix (FindsTextPrefix front) bytes rest → bytes ≡ front ++ rest
 stripped front bytes rest strips = strips.1.1 ∙ ap (λ text. front ++ text) (sym strips.2)
 

@@ -1,4 +1,4 @@
--- A text that is taken byte by byte, whose lines tell events.
+-- A text that is taken byte by byte, whose lines spell events.
 use Rattle.std.proofs.Common.{◌≡◌, ℕ, zero, suc, ◌+◌, ◌-◌, ◌<◌, ◌≤◌, ◌==◌, Bool, true, false, List, [], ◌∷◌, ◌++◌, Option, None, Some, Result, Ok, Err, inl, inr, length, length-append, nat_lt, refl, sym, ap, subst, arith, drop, length-drop, take, take-append-drop}
 use Rattle.std.specs.Prelude.{All}
 use Rattle.std.specs.Io.KnownBytes.{Appends}
@@ -202,7 +202,7 @@ module _ {S : Type 0} (view : SourceView S) where
               reads_one view (TookLast []) (reports (suc room) number line events) (last_of event_taken report_over number line events) left later tt
               (omega arith, refl) gives
 
-      -- what stands after the last end was seen
+      -- the text after the last end was seen
       pub ends_last : (byte : Option ℕ) → ((some : ℕ) → byte ≡ Some some → ⊥) → TakesByte view byte left later → (bytes : List ℕ) → bytes ≡ line
           → (result : Result Seen ReportFault) → SeesLast number bytes events result → ReadsText view result from later
       ends_last byte none gives bytes same result sees =
@@ -318,7 +318,7 @@ module _ {S : Type 0} (view : SourceView S) where
                 (subst (λ (all : List ℕ). SpellsEvent all said) same spells)));
           }
 
-    -- it is so of what is the same
+    -- this holds for equal parts
     pub same_saw : (taken : ℕ) (left : S) {n m : ℕ} → n ≡ m → {line bytes : List ℕ} → line ≡ bytes → {seen after : Seen} → seen ≡ after
         → SawSoFar taken m bytes after left → SawSoFar taken n line seen left
     same_saw taken left {n} {m} ns {line} {bytes} ls {seen} {after} ss saw =

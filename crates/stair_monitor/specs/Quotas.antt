@@ -7,25 +7,25 @@ use Rattle.stair_rack.specs.declared.watcher.Counts.{Counts}
 use Rattle.stair_rack.specs.declared.watcher.EventKind.{EventKind}
 use Rattle.stair_watch.specs.Watchers.{count_in, sum_in}
 
--- the sink that the lines go to, the number of events by kind, and of how many of which kind it waits for
+-- the sink of the lines, the number of events by kind, and the kind and the number of events at which it leaves
 pub record QuotaState (K : Type 0) : Type 0 where
   pub sink : K
   pub counts : Counts
   pub kind : EventKind
   pub limit : ℕ
 
--- the limit of its kind is reached, or an event more could not be counted
+-- A quota has left if the limit of its kind is reached, or if one more event could not be counted.
 abbrev pub quota_left : {K : Type 0} → QuotaState K → Bool
 quota_left q = nat_le q.limit (count_in q.counts q.kind) || nat_le (2 ^ 64 - 1) (sum_in q.counts)
 
--- so many events of all kinds are waited for, and so many of its kind
+-- the number of events of all kinds, and of its kind, that it still waits for
 abbrev pub quota_remaining : {K : Type 0} → QuotaState K → RemainingQuota
 quota_remaining q = record {
   all = 2 ^ 64 - 1 - sum_in q.counts;
   kind = Some (q.kind, q.limit - count_in q.counts q.kind);
 }
 
--- one that hasn't left waits for an event more of its kind at least
+-- a quota that has not left waits for at least one more event of its kind
 pub quota_waits : {K : Type 0} (q : QuotaState K) → quota_left q ≡ false → IsPatient [] (quota_remaining q)
 quota_waits q stays = (grind (arith, nat_tests), grind (arith, nat_tests))
 

@@ -1,4 +1,4 @@
--- What `report` does: the lines of a text tell events, and how many there were is put out.
+-- What `report` does: it counts the events that the lines of a text spell, and writes the counts.
 use Rattle.std.specs.Prelude.{◌==◌, ◌+◌, ℕ, zero, suc, List, [], ◌∷◌, ◌++◌, Option, None, Some, Result, Ok, Err, codes, if◌then◌else◌}
 use Rattle.std.specs.Fmt.{decimal}
 use Rattle.stair_monitor.specs.declared.reporting.ReportFault.{ReportFault}
@@ -21,7 +21,7 @@ fences_of slot (event.Fenced other ∷ events) =
     if other == slot then fences_of slot events + 1 else fences_of slot events
 fences_of slot (other ∷ events) = fences_of slot events
 
--- WHAT IS PUT OUT
+-- THE REPORT
 
 abbrev pub counts_line : List Event → List ℕ
 counts_line events = codes "events: fenced " ++ (decimal (count_of Fenced events)
@@ -29,13 +29,13 @@ counts_line events = codes "events: fenced " ++ (decimal (count_of Fenced events
     ++ (codes " admitted " ++ (decimal (count_of Admitted events)
     ++ (codes " promoted " ++ (decimal (count_of Promoted events) ++ newline)))))))
 
--- a line for a slot that was fenced so often, and none for one that wasn't
+-- the line of a slot with its number of fences; a slot that was never fenced has none
 abbrev pub slot_line : (slot fences : ℕ) → List ℕ
 slot_line slot zero = []
 slot_line slot (suc fences) = codes "slot " ++ (decimal slot ++ (codes " fenced "
     ++ (decimal (suc fences) ++ newline)))
 
--- those of the first slots, rising
+-- the lines of the first `slots` slots, in ascending order
 abbrev pub slot_lines : List Event → (slots : ℕ) → List ℕ
 slot_lines events zero = []
 slot_lines events (suc slots) =
@@ -44,13 +44,13 @@ slot_lines events (suc slots) =
 abbrev pub report_text : List Event → List ℕ
 report_text events = counts_line events ++ slot_lines events 32
 
--- THE PLAN
+-- THE PROGRAM
 
--- the line of an event has at most so many bytes, without its end
+-- the most bytes of the line of an event, without its end
 abbrev pub EVENT_LIMIT : ℕ
 EVENT_LIMIT = 64
 
--- The rest takes the events that came so far, the last of them first. The report ends at a line that tells none.
+-- `rest` takes the events so far, the last of them first. The report ends at a line that spells none.
 abbrev pub if_event : (number : ℕ) → List Event → (List Event → Program) → Option Event → Program
 if_event number events rest None = Over (BadLine number)
 if_event number events rest (Some said) = rest (said ∷ events)
@@ -61,7 +61,7 @@ event_taken number line events rest = Ask (EventLine line) (if_event number even
 abbrev pub report_over : List Event → Program
 report_over events = Put (report_text events) (Over Done)
 
--- what is left of a text of at most so many bytes more, of whose line of this number these bytes came, after these events
+-- The rest of a text: at most `room` more bytes, after these events and these bytes of line `number`.
 abbrev pub reports : (room number : ℕ) → List ℕ → List Event → Program
 reports room number line events =
     by_lines EVENT_LIMIT event_taken report_over room number line events
@@ -69,7 +69,7 @@ reports room number line events =
 abbrev pub report_program : Program
 report_program = reports SCRIPT_LIMIT 1 [] []
 
--- the status of a report that was refused, or done
+-- the status of a fault of a report, and of its result
 abbrev pub status_of_report : ReportFault → Status
 status_of_report (fault.Input needed took) = Input needed took
 status_of_report fault.InputFault = InputFault

@@ -5,9 +5,12 @@ ghost use Rattle.stair_rack.specs.declared.watcher.Event.{Event};
 ghost use Rattle.stair_watch.specs.Lines.{event_line, newline};
 ghost use Rattle.stair_script.specs.Events.{IsEvent, SpellsEvent, event_text};
 
-/// Bytes spell one event at most, and whether they spell one is decided. Each event within the bounds, and no other, is spelled
-/// by some bytes, which are those as which it is printed; they are at most 37. What a `Printer` and a `Quota` put out for an
-/// event are these bytes and an end of line. It does nothing.
+/// States the laws of the lines of events. It does nothing.
+///
+/// - Bytes spell at most one event, and whether they spell one is decided.
+/// - The events that bytes spell are those within the bounds. Their bytes are exactly those that are printed, at most
+///   37.
+/// - A `Printer` and a `Quota` put out these bytes and an end of line for an event.
 pub fn event_laws()
     ensures one_event { (bytes : List ℕ) (a b : Event) → SpellsEvent bytes a → SpellsEvent bytes b →
         a ≡ b }

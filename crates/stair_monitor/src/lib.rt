@@ -1,7 +1,7 @@
 //! A watcher with a limit of events of one kind, and the lines of events: printed, read back, and counted.
 //!
-//! [`Quota`] prints the events of its kind and leaves before they pile up. [`read_event`] reads the line of an event, or refuses
-//! it. [`print_event`] prints one, and what it printed is read back. [`report`] counts the events of a text of such lines.
+//! [`Quota`] prints the events of one kind and leaves at a chosen number of them. [`print_event`] prints the line of an
+//! event, and [`read_event`] reads it back or refuses it. [`report`] counts the events of a text of such lines.
 #![tactic(auto)]
 
 pub mod laws;

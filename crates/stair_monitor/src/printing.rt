@@ -4,11 +4,12 @@ ghost use Rattle.stair_script.specs.Events.{IsEvent, SpellsEvent, event_text};
 use stair_rack::Event;
 use stair_watch::Line;
 
-/// Room for the line of an event, which has at most 37 bytes.
+/// The size of the buffer for the line of an event, in bytes. A line has at most 37.
 pub const MAX_EVENT_LINE: usize = 64;
 
-/// Prints the line of an event, without its end, at the front of the room, and tells how many bytes it has. What stands after
-/// it stays as it was. It takes no memory.
+/// Writes the line of an event, without its end, to the front of `into`, and returns its length in bytes.
+///
+/// The bytes after it stay as they were. It allocates no memory.
 pub fn print_event(event: Event, into: &mut [u8; MAX_EVENT_LINE]) -> usize
     requires { IsEvent event }
     ensures text { take result into.new ≡ event_text event }
@@ -22,7 +23,7 @@ pub fn print_event(event: Event, into: &mut [u8; MAX_EVENT_LINE]) -> usize
     bytes.len()
 }
 
-/// The line of an event, without its end.
+/// Returns the line of an event, without its end.
 pub(crate) fn text_of(event: Event) -> Line
     ensures text { result ≡ event_text event }
     ensures short { length result ≤ 100 }

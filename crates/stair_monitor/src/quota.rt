@@ -11,10 +11,10 @@ use stair_rack::{Counts, Event, EventKind, Next, Sink, Watcher};
 use stair_watch::{Tally, put_until_fault};
 use std::marker::Model;
 
-/// A watcher for one who stops before events of one kind pile up: it prints a line for each of this kind to its sink, and leaves
-/// once it was told of a chosen number of them, or of 2^64 - 1 events in all.
+/// A watcher that prints the events of one kind to its sink, and leaves at a chosen number of them.
 ///
-/// Where its sink fails it writes nothing more of that line, and counts the event all the same.
+/// It counts the events of all kinds. It also leaves once 2^64 - 1 events in all were reported. If its sink fails, it
+/// writes nothing more of that line, and still counts the event.
 #[derive(Drop)]
 pub struct Quota<K: Sink + Drop> {
     sink: K,
@@ -40,7 +40,7 @@ impl<K: Sink + Drop> Model for Quota<K> {
 }
 
 impl<K: Sink + Drop> Quota<K> {
-    /// A watcher that was told of no event, and leaves at event number `limit` of this kind.
+    /// Returns a watcher that has counted no event, and leaves at event number `limit` of this kind.
     pub fn new(kind: EventKind, limit: u64, sink: K) -> Quota<K>
         requires { 1 ≤ limit }
         ensures state { result ≡ record {
@@ -94,7 +94,7 @@ impl<K: Sink + Drop> Watcher for Quota<K> {
     }
 }
 
-// Puts the line of an event into a sink, up to a fault.
+// Writes the line of an event to a sink, up to a fault.
 fn put_line<K: Sink>(sink: &mut K, event: Event)
     ensures { Prints K.held K.faults (event_line event) sink.old sink.new }
 {
@@ -103,7 +103,7 @@ fn put_line<K: Sink>(sink: &mut K, event: Event)
     put_until_fault(sink, line.bytes());
 }
 
-// How many events there were of a kind.
+// Returns the number of events of a kind.
 fn number_of(counts: Counts, kind: EventKind) -> u64
     ensures { result ≡ count_in counts kind }
 {

@@ -8,11 +8,11 @@ use stair_conf::read_number;
 use stair_rack::Event;
 use std::str;
 
-/// Reads the line of an event, without its end: `fenced J`, `repaired stripe S cells K`, `admitted J` or `promoted J`.
+/// Returns the event that a line spells, or `None` if it spells none. The line comes without its end.
 ///
-/// Words are divided by exactly one space, and there is no other blank. A number is decimal digits with no sign and no leading
-/// zero. J is a slot, below 32, S a stripe, at most 4,294,967,294, and K a number of cells, from 1 to 1,024. All other lines are None. It
-/// takes no memory.
+/// The lines are `fenced J`, `repaired stripe S cells K`, `admitted J` and `promoted J`. Exactly one space divides two
+/// words, and there is no other blank. A number is decimal, with no sign and no leading zero. J is a slot, below 32; S
+/// is a stripe, at most 4,294,967,294; K is a number of cells, 1 to 1,024. It allocates no memory.
 pub fn read_event(line: &[u8]) -> Option<Event>
     ensures { (said : Event) → (result ≡ Some said) ↔ SpellsEvent line.now said }
 {
@@ -39,7 +39,7 @@ fn read_text(line: &str) -> Option<Event>
     }
 }
 
-// Reads what stands after the word `repaired`: the number of the stripe, and that of the cells.
+// Reads the text after the word `repaired`: the numbers of the stripe and of the cells.
 fn read_repaired(values: &str) -> Option<Event>
     ensures { (said : Event) → (result ≡ Some said)
         ↔ SpellsEvent (codes "repaired " ++ values.now) said }

@@ -1,4 +1,4 @@
-// Events are counted that lines tell.
+// Counts the events that lines spell.
 ghost use Rattle.std.specs.Prelude.{◌≡◌, ◌+◌, ◌<◌, ◌≤◌, ◌++◌, ℕ, IfErr, IfOk, List, [], ◌∷◌, length};
 ghost use Rattle.stair_rack.specs.declared.watcher.Event.{Event};
 ghost use Rattle.stair_script.specs.Events.{IsEvent};
@@ -16,25 +16,25 @@ use stair_rack::{Counts, Event, Sink, Source};
 use stair_script::SCRIPT_LIMIT;
 use stair_watch::{Line, put_until_fault};
 
-/// Why no report was put out, or only a part of one.
+/// Why no report was written, or only a part of one.
 #[derive(Clone, Copy, Debug, PartialEq, Eq)]
 pub enum ReportFault {
-    /// The text was longer than a script may be, in bytes. One byte more was taken.
+    /// The text has more bytes than a script may have. One byte more than that was taken.
     Input { needed: u64, took: u64 },
     /// The source failed.
     InputFault,
-    /// The sink failed, and a part of the report may have been put out.
+    /// The sink failed. A part of the report may have been written.
     OutputFault,
-    /// This line, counted from 1, is not that of an event, or too long.
+    /// This line, counted from 1, spells no event, or is too long.
     BadLine(u64),
 }
 
-/// Counts the events of a text, and puts out how many there were: a line for all kinds, and then one for each slot that was fenced,
-/// rising.
+/// Counts the events of a text and writes a report: one line for all kinds, then one for each slot that was fenced, in
+/// ascending order.
 ///
-/// A line ends with a newline; after the last one there may be a line without an end. Each line is that of an event
-/// ([`read_event`]). A text has at most as many bytes as a script. It is taken byte by byte, and nothing is put out before all of it
-/// was. It takes no memory.
+/// Each line of the text spells an event ([`read_event`]) and ends with a newline, which the last line may lack. A text
+/// has at most as many bytes as a script. It is read byte by byte, and nothing is written before its end was read. It
+/// allocates no memory.
 pub fn report<S: Source, K: Sink>(input: &mut S, output: &mut K) -> Result<(), ReportFault>
     ensures { (counter : ℕ) → Executes (views S.Source K.Sink)
         report_program (Over (status_of result))
@@ -64,7 +64,7 @@ impl From<ReportFault> for Status {
     }
 }
 
-/// How many events of each kind there were, and how often each slot was fenced.
+/// The number of events of each kind, and how often each slot was fenced.
 #[derive(Clone, Copy)]
 struct Seen {
     counts: Counts,
@@ -102,7 +102,7 @@ impl Seen {
         }
     }
 
-    // What is put out of them.
+    // Returns the report of these counts.
     fn text(&self) -> Line
         ensures { (events : List Event) → Tells events self.now → result ≡ report_text events }
     {
@@ -114,7 +114,7 @@ impl Seen {
     }
 }
 
-// The line of the counts.
+// Returns the line of the counts.
 fn line_of(counts: Counts) -> Line
     ensures text { (events : List Event) → CountsOf events counts → result ≡ counts_line events }
     ensures short { length result ≤ 126 }
@@ -128,7 +128,7 @@ fn line_of(counts: Counts) -> Line
     text
 }
 
-// Appends the line of a slot that was fenced so often, which is none where it wasn't, and has at most 26 bytes.
+// Appends the line of a slot with its number of fences, at most 26 bytes. A slot that was never fenced has none.
 fn push_slot(text: &mut Line, slot: u8, fences: u32)
     requires slot { slot < 32 }
     requires room { length text.old + 35 ≤ 1100 }
@@ -172,7 +172,7 @@ fn take_events<S: Source>(input: &mut S) -> Result<Seen, ReportFault>
     take_last(seen, line.bytes(), number)
 }
 
-// Counts what stands after the last end of a line, which is no line where it is nothing.
+// Counts the text after the last end of a line. It is a line only if it is not empty.
 fn take_last(mut seen: Seen, line: &[u8], number: u64) -> Result<Seen, ReportFault>
     requires { IsFew seen }
     ensures { (events : List Event) → Tells events seen → SeesLast number line.now events result }
@@ -183,7 +183,7 @@ fn take_last(mut seen: Seen, line: &[u8], number: u64) -> Result<Seen, ReportFau
     Ok(seen)
 }
 
-// The event that a line of this number tells.
+// Returns the event that a line spells, or `BadLine` with its number.
 fn event_of(line: &[u8], number: u64) -> Result<Event, ReportFault>
     ensures { IsEventOf number line.now result }
 {

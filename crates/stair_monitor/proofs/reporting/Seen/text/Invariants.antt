@@ -1,4 +1,4 @@
--- The lines of so many slots stand after the first one.
+-- The lines of the first slots follow the line of the counts.
 use Rattle.std.proofs.Common.{◌≡◌, ◌+◌, ◌*◌, ◌≤◌, ◌++◌, List, length}
 use Rattle.stair_rack.specs.declared.watcher.Event.{Event}
 use Rattle.stair_monitor.specs.Reports.{counts_line, slot_lines}
