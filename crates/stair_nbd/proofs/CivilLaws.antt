@@ -17,7 +17,7 @@ use Rattle.stair_nbd.specs.Client.{SESSION_LIMIT, answers, answers_option, clien
 use Rattle.stair_nbd.specs.Wire.{ABORT, ACK, ERR_UNSUP, EXPORT_NAME, FLAGS_LENGTH, OPTION_LENGTH, REQUEST_LENGTH, are_flags, data_length, export_answer, is_brief, option_reply, read_option, read_request, simple_reply}
 use Rattle.stair_nbd.proofs.ClientLaws.{IsOfRequest, responds_so}
 
--- ---- what is told is cut in one way alone
+-- ---- an input is cut into messages in only one way
 
 cut_once : (x a y b : List ℕ) → x ++ a ≡ y ++ b → length x ≡ length y → (y ≡ x) × (b ≡ a)
 cut_once [] a [] b same long = (refl, sym same)

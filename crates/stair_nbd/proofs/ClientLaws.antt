@@ -1,4 +1,4 @@
--- What is so of the program of a session, if it is so of each node by what comes after it.
+-- What holds for the program of a session, if it holds for each node given that it holds after it.
 use Rattle.std.proofs.Common.{◌≡◌, sym, ℕ, zero, suc, ◌+◌, ◌-◌, ◌*◌, ◌/◌, ◌%◌, ◌<◌, ◌≤◌, ◌==◌, Bool, true, false, List, [], ◌∷◌, ◌++◌, length, take, drop, min, Option, None, Some, Result, Ok, Err, refl, ap, arith}
 use Rattle.std.specs.Prelude.{◌||◌, ◌&&◌, nat_le, nat_lt, ⊤}
 use Rattle.std.proofs.lemmas.Bool.{eqb-false, false≢true, ltb-false}

@@ -1,4 +1,4 @@
--- The options of a client, one after the other, up to the one that names the export.
+-- The options of a client in order, up to the one that names the export.
 use Rattle.std.proofs.Common.{◌≡◌, ◌∙◌, ◌&&◌, ◌==◌, ◌+◌, ◌-◌, ◌<◌, ◌≤◌, ℕ, zero, suc, Bool, true, false, List, None, Some, Option, Ok, Err, Result, ap, ap₂, arith, cond, nat_le, refl, subst, sym}
 use Rattle.std.proofs.lemmas.Bool.{eq-eqb, le-leb, leb-true, lt-leb, ne_eqb}
 use Rattle.std.specs.Result.{IsErrAnd}

@@ -1,4 +1,4 @@
--- What the first and the last block hold beside the bytes of a request, as it is read.
+-- What the first and the last block hold around the bytes of a request, as it is read.
 use Rattle.std.proofs.Common.{◌≡◌, ◌∙◌, ◌<◌, ◌≤◌, ℕ, List, [], ◌++◌, length, take, drop, Ok, Err, Result, ap, ap₂, arith, refl, subst, sym}
 use Rattle.std.specs.Prelude.{Bool, ◌&&◌, ◌==◌, false, nat_lt, true}
 use Rattle.std.proofs.lemmas.Bool.{eq-eqb, le-ltb, lt-ltb, ne_eqb}

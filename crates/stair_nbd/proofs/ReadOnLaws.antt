@@ -1,4 +1,4 @@
--- The loop of `read_blocks`: what is so before each block.
+-- The loop of `read_blocks`: what holds before each block.
 use Rattle.std.proofs.Common.{◌≡◌, ◌∙◌, ◌+◌, ◌-◌, ◌*◌, ◌<◌, ◌≤◌, ℕ, suc, List, [], ◌++◌, length, take, Ok, Err, Result, ap, arith, subst, sym}
 use Rattle.std.proofs.lemmas.List.{take_all}
 use Rattle.std.proofs.lemmas.Slice.{take-put_mid}

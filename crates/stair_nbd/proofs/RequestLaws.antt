@@ -1,4 +1,4 @@
--- One request after the other.
+-- Requests, in order.
 use Rattle.std.proofs.Common.{◌≡◌, ◌∙◌, ap₂, ◌==◌, ◌+◌, ◌++◌, ◌<◌, ◌≤◌, ℕ, zero, suc, Bool, true, false, List, Option, None, Some, Result, Ok, Err, refl, sym, ap, subst, arith}
 use Rattle.std.specs.Prelude.{nat_le}
 use Rattle.std.specs.Result.{IsErrAnd}
@@ -59,7 +59,7 @@ module _ {R W S K : Type 0} (view : DeviceView R W) (streams : Views S K) (progr
 
 -- ---- a message
 
--- what comes of the bytes of a header
+-- the program after the bytes of a header
 abbrev pub heard : Geometry → (turns number taken : ℕ) → List ℕ → Program
 heard g turns number taken header = if_message number
     (λ q. if_so (is_disconnect q.command) (Over Done) (answers g q (requests g turns (number + 1) (taken + REQUEST_LENGTH + data_length q))))

@@ -1,4 +1,4 @@
--- What comes of a request: nothing where it is refused, and what its blocks give or take where it isn't.
+-- The result of a request: nothing if it is refused, otherwise what its blocks give or take.
 use Rattle.std.proofs.Common.{◌≡◌, ◌∙◌, ℕ, List, [], ap, ap₂, drop, subst, sym, take}
 use Rattle.std.specs.Prelude.{Bool, ◌||◌, false, true}
 use Rattle.stair_model.specs.Geometry.{Geometry}

@@ -77,7 +77,7 @@ takes_some header zero k some = absurd (omega (arith, some))
 takes_some header (suc n) k some = refl
 
 module _ {S : Type 0} (view : SourceView S) (header n : ℕ) (k : List ℕ → Program) (a b : S) (some : 0 < n) where
-  -- what is so of exactly so many bytes
+  -- what holds for exactly so many bytes
   of_some : (rest : Program) → TakesTo view (take_exactly n k (data_cut header n)) rest a b → TakesTo view (takes_data header n k) rest a b
   of_some rest = subst (λ (program : Program). TakesTo view program rest a b) (sym (takes_some header n k some))
 

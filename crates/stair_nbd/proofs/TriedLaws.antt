@@ -1,4 +1,5 @@
--- A step that a program tries: where it was done the program goes on by what it gave, and where it was refused by one thing.
+-- A step that a program tries: if it was done, the program continues with its result; all refusals lead to the same
+-- program.
 use Rattle.std.proofs.Common.{◌≡◌, ◌∙◌, ℕ, List, Ok, Err, Result, refl, subst, sym}
 use Rattle.std.specs.Prelude.{⊤}
 use Rattle.std.specs.Result.{IsErrAnd}

@@ -1,4 +1,4 @@
--- The loop of `write_blocks`: what is so before each piece.
+-- The loop of `write_blocks`: what holds before each piece.
 use Rattle.std.proofs.Common.{◌≡◌, ◌∙◌, ◌+◌, ◌-◌, ◌*◌, ◌/◌, ◌<◌, ◌≤◌, ℕ, zero, suc, List, length, take, drop, Ok, Err, Result, ap, arith, refl, subst, sym}
 use Rattle.std.specs.Prelude.{Bool}
 use Rattle.std.proofs.lemmas.Bool.{eq-eqb, ne_eqb}

@@ -1,4 +1,4 @@
--- What is done for a client: its messages are taken and answered, one after the other.
+-- What is done for a client: its messages are taken and answered in order.
 use Rattle.std.specs.Prelude.{◌==◌, ◌||◌, ◌&&◌, ◌+◌, ◌-◌, ◌*◌, ◌/◌, ◌%◌, ℕ, zero, suc, Bool, true, false, nat_le, nat_lt, List, [], ◌∷◌, ◌++◌, length, take, drop, Option, None, Some, Result, Ok, Err}
 use Rattle.stair_model.specs.Geometry.{Geometry, block_count}
 use Rattle.stair_model.specs.Stripe.{SECTOR}
@@ -18,38 +18,38 @@ use Rattle.stair_nbd.specs.declared.wire.ReplyError.TheVariants as error
 use Rattle.stair_nbd.specs.declared.wire.Request.{Request}
 use Rattle.stair_nbd.specs.Wire.{ABORT, ACK, ERR_UNSUP, EXPORT_NAME, FLAGS_LENGTH, OPTION_LENGTH, REQUEST_LENGTH, are_flags, data_length, export_answer, greeting, is_brief, option_reply, read_option, read_request, simple_reply}
 
--- the array, in bytes
+-- the size of the array in bytes
 abbrev pub size_of : Geometry → ℕ
 size_of g = SECTOR * block_count g
 
 -- TAKING
 
--- Where the input ends within a header: before its first byte there is no message, and all is done.
+-- The input ends within a header. Before its first byte there is no message, and the session is done.
 abbrev pub ends_in_header : (needed : ℕ) → List ℕ → Program
 ends_in_header needed [] = Over Done
 ends_in_header needed (byte ∷ bytes) = Over (Input needed (length (byte ∷ bytes)))
 
--- a header of so many bytes, which is taken whole
+-- takes a whole header of `needed` bytes
 abbrev pub takes_header : (needed : ℕ) → (List ℕ → Program) → Program
 takes_header needed k = take_exactly needed k (ends_in_header needed)
 
--- the bytes of a message after its header of so many, of which there may be none
+-- takes the `length` bytes of a message after a header of `header` bytes; there may be none
 abbrev pub takes_data : (header length : ℕ) → (List ℕ → Program) → Program
 takes_data header zero k = k []
 takes_data header (suc n) k = take_exactly (suc n) k
     (λ bytes. Over (Input (header + suc n) (header + length bytes)))
 
--- a message begins before so many bytes were taken
+-- A message must begin before this number of bytes was taken.
 abbrev pub SESSION_LIMIT : ℕ
 SESSION_LIMIT = 1099511627776
 
--- no message may begin any more, but the end may come
+-- no message may begin any more; only the end of the input may come
 abbrev pub too_late : (number : ℕ) → Program
 too_late number = take_exactly 1 (λ byte. Over (BadMessage number)) (λ none. Over Done)
 
 -- STEPS FOR A REQUEST
 
--- how it goes on by what a step answered: a refusal, whatever it is, comes to one thing
+-- the program after the answer of a step; all refusals lead to the same program
 abbrev pub if_answered : {X : Type 0} → (refused : Program) → (X → Program) → Result X Refusal → Program
 if_answered refused k (Ok x) = k x
 if_answered refused k (Err refusal) = refused
@@ -57,14 +57,14 @@ if_answered refused k (Err refusal) = refused
 abbrev pub tries : (step : Step) → (refused : Program) → (GivenBy step → Program) → Program
 tries step refused k = Try step (λ answer left. if_answered refused k answer)
 
--- so many blocks are read, from this one on, after bytes that were read
+-- reads `count` blocks from `block` on, after the bytes that were read so far
 abbrev pub reads_on : (block count : ℕ) → List ℕ → (refused : Program) → (List ℕ → Program) → Program
 reads_on block zero so_far refused k = k so_far
 reads_on block (suc count) so_far refused k = tries (ReadBlock block) refused
     (λ bytes. reads_on (block + 1) count (so_far ++ bytes) refused k)
 
--- So many blocks of these bytes are written, from this one on: by each step up to the end of a stripe. There are no more turns than
--- blocks.
+-- Writes `left` blocks of these bytes from `block` on. Each step writes up to the end of a stripe. There are no more
+-- turns than blocks.
 abbrev pub writes_on : Geometry → (turns block left : ℕ) → List ℕ → (refused done : Program) → Program
 writes_on g zero block left bytes refused done = done
 writes_on g (suc turns) block left bytes refused done = if_so (left == 0) done
@@ -93,20 +93,20 @@ end_block q = (q.offset + q.length) / SECTOR
 abbrev pub end_within : Request → ℕ
 end_within q = (q.offset + q.length) % SECTOR
 
--- A request has at most so many bytes of data,
+-- the most bytes of data that a request may have
 abbrev pub DATA_LIMIT : ℕ
 DATA_LIMIT = 33554432
 
 abbrev pub is_too_long : Request → Bool
 is_too_long q = nat_lt DATA_LIMIT q.length
 
--- and ends within an array of so many bytes.
+-- A request is past the end if it ends after an array of `size` bytes.
 abbrev pub is_past : (size : ℕ) → Request → Bool
 is_past size q = nat_lt size (q.offset + q.length)
 
 -- READING
 
--- what comes of a request: an error, or none, and the bytes after the reply's header
+-- the program after a request, by its error or none and the bytes after the reply's header
 abbrev pub Comes : Type 0
 Comes = ReplyError → List ℕ → Program
 
@@ -117,12 +117,12 @@ reads_for g q k = if_so (is_too_long q || is_past (size_of g) q) (k error.Invali
 
 -- WRITING
 
--- The first block is read where it is touched in part from some byte on,
+-- The first block is read if the bytes begin within it.
 abbrev pub reads_front : Request → (refused : Program) → (List ℕ → Program) → Program
 reads_front q refused k =
     if_so (skipped q == 0) (k []) (tries (ReadBlock (first_block q)) refused k)
 
--- and the last one where it is up to some byte, unless it is the first and was read.
+-- The last block is read if the bytes end within it, unless it is the first block and was read.
 abbrev pub was_read : Request → Bool
 was_read q = nat_lt 0 (skipped q) && (end_block q == first_block q)
 
@@ -130,7 +130,7 @@ abbrev pub reads_back : Request → (front : List ℕ) → (refused : Program) �
 reads_back q front refused k = if_so (end_within q == 0) (k [])
     (if_so (was_read q) (k front) (tries (ReadBlock (end_block q)) refused k))
 
--- what these blocks held stays around the bytes
+-- the bytes with what these blocks held around them
 abbrev pub around : Request → (front bytes back : List ℕ) → List ℕ
 around q front bytes back =
     take (skipped q) front ++ (bytes ++ drop (end_within q) back)
@@ -149,7 +149,7 @@ writes_for g q bytes k = if_so (is_too_long q) (k error.Invalid [])
 
 -- REQUESTS
 
--- What is done for a request, after which these bytes came. What was written stands already, so there is nothing to flush.
+-- What is done for a request with these bytes. FLUSH has nothing to do: writes are done before they are answered.
 abbrev pub responds : Geometry → Request → List ℕ → Comes → Command → Program
 responds g q bytes k command.Read = reads_for g q k
 responds g q bytes k command.Write = writes_for g q bytes k
@@ -157,7 +157,7 @@ responds g q bytes k command.Disconnect = k error.None []
 responds g q bytes k command.Flush = k error.None []
 responds g q bytes k command.Other = k error.Invalid []
 
--- its reply, put out as one piece
+-- its reply, written as one piece
 abbrev pub replies : Request → (rest : Program) → Comes
 replies q rest why bytes = Put (simple_reply why q.cookie ++ bytes) rest
 
@@ -169,13 +169,13 @@ abbrev pub is_disconnect : Command → Bool
 is_disconnect command.Disconnect = true
 is_disconnect _ = false
 
--- how a session goes on with a message of this number; the rest takes what it asks for
+-- the program after message `number`: `k` takes what it asks for, and a bad message ends the session
 abbrev pub if_message : {M : Type 0} → (number : ℕ) → (M → Program) → Option M → Program
 if_message number k None = Over (BadMessage number)
 if_message number k (Some message) = k message
 
--- What is left of a session after so many bytes, of which the next message has this number. Each has some bytes, so turns as many
--- as the limit are enough.
+-- The rest of a session after `taken` bytes, where the next message has this number. Each message has some bytes: as
+-- many turns as the limit are enough.
 abbrev pub requests : Geometry → (turns number taken : ℕ) → Program
 requests g zero number taken = too_late number
 requests g (suc turns) number taken = if_so (nat_le SESSION_LIMIT taken) (too_late number)
@@ -186,7 +186,7 @@ requests g (suc turns) number taken = if_so (nat_le SESSION_LIMIT taken) (too_la
 
 -- OPTIONS
 
--- an option that was taken whole; where it names the export, the rest is requests
+-- answers an option that was taken whole; after the one that names the export come requests
 abbrev pub answers_option : OptionRequest → (export : List ℕ) → (requests more : Program) → Program
 answers_option o export requests more = if_so (o.option == EXPORT_NAME) (Put export requests)
     (if_so (o.option == ABORT) (Put (option_reply ABORT ACK) (Over Done))
@@ -206,7 +206,7 @@ options export requests (suc turns) number taken =
 
 -- THE SESSION
 
--- the client's flags are its first message
+-- the handshake: the client's flags are its first message
 abbrev pub shakes_hands : (size : ℕ) → (requests : (number taken : ℕ) → Program) → Program
 shakes_hands size requests = Put greeting (takes_header FLAGS_LENGTH (λ flags.
     if_so (are_flags flags)
@@ -216,7 +216,7 @@ shakes_hands size requests = Put greeting (takes_header FLAGS_LENGTH (λ flags.
 abbrev pub client_program : Geometry → Program
 client_program g = shakes_hands (size_of g) (requests g SESSION_LIMIT)
 
--- the status of a session that was brought to an end, or came to it
+-- the status of a session, by its fault and by its result
 abbrev pub status_of_nbd : NbdFault → Status
 status_of_nbd (fault.Input needed took) = Input needed took
 status_of_nbd fault.InputFault = InputFault

@@ -1,4 +1,4 @@
--- What the parts of a session do, each up to where it hands on.
+-- What the parts of a session do, each up to where the next part takes over.
 use Rattle.std.specs.Prelude.{◌≡◌, ◌+◌, ◌*◌, ◌<◌, ◌≤◌, ℕ, Bool, true, false, List, drop, take, Option, None, Some, Result, Ok, Err, OnOk}
 use Rattle.stair_model.specs.Stripe.{SECTOR}
 use Rattle.stair_array.specs.declared.fault.ArrayFault.{ArrayFault}
@@ -24,7 +24,7 @@ abbrev pub after_data : Result (Unit {0}) NbdFault → List ℕ → (List ℕ �
 after_data (Ok done) bytes k = k bytes
 after_data (Err why) bytes k = Over (status_of_nbd why)
 
--- after something that was done, whatever it was
+-- after a part that gives no value
 abbrev pub after_done : Result (Unit {0}) NbdFault → Program → Program
 after_done (Ok done) rest = rest
 after_done (Err why) rest = Over (status_of_nbd why)
@@ -35,12 +35,12 @@ after_options (Ok (Some place)) requests = requests place.number place.taken
 after_options (Ok None) requests = Over Done
 after_options (Err why) requests = Over (status_of_nbd why)
 
--- a place in a session, as it is counted: each message before it had some bytes, and the last began before the limit
+-- A position is counted correctly: each message before it had some bytes, and the last began before the limit.
 pub record IsPlace (place : MessagePosition) : Type 0 where
   pub few : place.number ≤ place.taken
   pub within : place.taken < SESSION_LIMIT + 4294967296 + REQUEST_LENGTH
 
--- The blocks that the most bytes of a request touch are one more than those fill.
+-- The most bytes of a request touch one block more than they fill.
 abbrev pub BLOCKS : ℕ
 BLOCKS = 65537 * SECTOR
 
@@ -48,8 +48,8 @@ BLOCKS = 65537 * SECTOR
 abbrev pub BUFFER : ℕ
 BUFFER = REPLY_LENGTH + BLOCKS
 
--- So many bytes came after a request's header; those that are to be written are in the buffer, after as many as the first block
--- keeps before them.
+-- `count` bytes came after a request's header. If they are to be written, they are in the buffer, after as many bytes
+-- as the first block keeps before them.
 abbrev pub IsKept : (size : ℕ) → Request → (count : ℕ) → List ℕ → (buffer : List ℕ) → Type 0
 IsKept size q count bytes buffer = is_too_long q ≡ false → is_past size q ≡ false
     → bytes ≡ take count (drop (skipped q) buffer)
@@ -61,7 +61,7 @@ pub record TakesData {S : Type 0} (view : SourceView S) (size : ℕ) (q : Reques
   pub takes : (k : List ℕ → Program) → TakesTo view (takes_data REQUEST_LENGTH (data_length q) k)
       (after_data result bytes k) old new
 
--- after steps that were done, or of which one was refused
+-- after steps that were all done, or of which one was refused
 abbrev pub after_steps : Result (Unit {0}) ArrayFault → (refused done : Program) → Program
 after_steps (Ok ok) refused done = done
 after_steps (Err why) refused done = refused

@@ -8,7 +8,7 @@ use Rattle.stair_nbd.specs.declared.wire.ReplyError.{ReplyError}
 use Rattle.stair_nbd.specs.declared.wire.ReplyError.TheVariants as error
 use Rattle.stair_nbd.specs.declared.wire.Request.{Request}
 
--- the number at a place
+-- the number at a place in bytes
 abbrev pub u16_at : ℕ → List ℕ → ℕ
 u16_at at bytes = from_be_bytes w16 (take 2 (drop at bytes))
 
@@ -18,9 +18,9 @@ u32_at at bytes = from_be_bytes w32 (take 4 (drop at bytes))
 abbrev pub u64_at : ℕ → List ℕ → ℕ
 u64_at at bytes = from_be_bytes w64 (take 8 (drop at bytes))
 
--- WHAT THE SERVER SAYS FIRST
+-- THE GREETING
 
--- that it speaks the fixed newstyle (bit 0), and leaves zeros out for a client that asks it to (bit 1)
+-- The server speaks the fixed newstyle (bit 0), and leaves zeros out for a client that asks for it (bit 1).
 abbrev pub greeting : List ℕ
 greeting = codes "NBDMAGIC" ++ (codes "IHAVEOPT" ++ to_be_bytes w16 3)
 
@@ -29,15 +29,15 @@ greeting = codes "NBDMAGIC" ++ (codes "IHAVEOPT" ++ to_be_bytes w16 3)
 abbrev pub FLAGS_LENGTH : ℕ
 FLAGS_LENGTH = 4
 
--- none is set but these two
+-- no bit but these two is set
 abbrev pub are_flags : List ℕ → Bool
 are_flags bytes = nat_le (u32_at 0 bytes) 3
 
--- bit 1, where no other but bit 0 may be set
+-- bit 1 is set, given that no bit but 0 and 1 is
 abbrev pub is_brief : List ℕ → Bool
 is_brief bytes = nat_le 2 (u32_at 0 bytes)
 
--- whether zeros are to be left out, where all flags are known
+-- whether zeros are to be left out; None if a flag is unknown
 abbrev pub flags_said : List ℕ → Option Bool
 flags_said bytes = if are_flags bytes then Some (is_brief bytes) else None
 
@@ -59,13 +59,13 @@ EXPORT_NAME = 1
 abbrev pub ABORT : ℕ
 ABORT = 2
 
--- what an option asks for, if it is one
+-- what an option asks for; None if its magic is wrong or it has too many bytes
 abbrev pub read_option : List ℕ → Option OptionRequest
 read_option header =
     if (u64_at 0 header == OPTION_MAGIC) && nat_le (u32_at 12 header) OPTION_DATA_LIMIT
     then Some (record { option = u32_at 8 header; length = u32_at 12 header }) else None
 
--- that an option was done (1), or isn't known (2^31 + 1)
+-- An option was done (1), or is unknown (2^31 + 1).
 abbrev pub ACK : ℕ
 ACK = 1
 
@@ -76,8 +76,8 @@ abbrev pub option_reply : (option reply : ℕ) → List ℕ
 option_reply option reply = to_be_bytes w64 0x0003_e889_0455_65a9
     ++ (to_be_bytes w32 option ++ (to_be_bytes w32 reply ++ to_be_bytes w32 0))
 
--- How large the array is, in bytes; that there are transmission flags (bit 0), and that FLUSH is served (bit 2); and zeros, unless
--- the client has them left out.
+-- The size of the array in bytes; the transmission flags: there are flags (bit 0), and FLUSH is served (bit 2); and
+-- zeros, unless the client has them left out.
 abbrev pub export_answer : (size : ℕ) → Bool → List ℕ
 export_answer size true = to_be_bytes w64 size ++ to_be_bytes w16 5
 export_answer size false =
@@ -104,12 +104,12 @@ request_of header = record {
   length = u32_at 24 header;
 }
 
--- what a request asks for, if it is one; its flags (bytes 4 and 5) aren't looked at
+-- what a request asks for; None if its magic is wrong. Its flags (bytes 4 and 5) are ignored.
 abbrev pub read_request : List ℕ → Option Request
 read_request header =
     if u32_at 0 header == REQUEST_MAGIC then Some (request_of header) else None
 
--- the bytes that come after its header
+-- the number of bytes after its header
 abbrev pub data_length_of : Command → ℕ → ℕ
 data_length_of command.Write length = length
 data_length_of _ length = 0

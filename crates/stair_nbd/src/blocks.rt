@@ -1,4 +1,4 @@
-// What is done to the blocks of an array for a request.
+// Reads and writes the blocks of an array for a request.
 ghost use Rattle.std.specs.Prelude.{◌≡◌, ◌+◌, ◌*◌, ◌/◌, ◌^◌, ◌≤◌, ◌<◌, ℕ, List, [], false, length, take, drop};
 ghost use Rattle.stair_array.specs.Promise.{Opened};
 ghost use Rattle.stair_model.specs.Geometry.{block_count};
@@ -40,21 +40,21 @@ use stair_command::{ObservedArray, piece_blocks};
 use stair_rack::{Rack, Watcher};
 
 impl Request {
-    /// Whether it has more bytes than a request may.
+    /// Returns whether it has more bytes than a request may.
     pub(crate) fn is_too_long(&self) -> bool
         ensures { result ≡ is_too_long self.now }
     {
         self.length > DATA_LIMIT
     }
 
-    /// Whether it ends past an array of so many bytes.
+    /// Returns whether it ends past an array of `size` bytes.
     pub(crate) fn is_past(&self, size: u64) -> bool
         ensures { result ≡ is_past size self.now }
     {
         self.offset > size || u64::from(self.length) > size - self.offset
     }
 
-    /// How many bytes of its first block come before its own.
+    /// Returns how many bytes of its first block come before its own.
     pub(crate) fn skipped(&self) -> usize
         ensures value { result ≡ bytes_skipped self.now }
         ensures within { result < BYTES }
@@ -62,14 +62,14 @@ impl Request {
         (self.offset % SECTOR as u64) as usize
     }
 
-    /// The first of the blocks that it touches, if any.
+    /// Returns the first of the blocks that it touches, if any.
     fn first_block(&self) -> u64
         ensures { result ≡ first_block self.now }
     {
         self.offset / SECTOR as u64
     }
 
-    // The block in which its bytes end, and how many bytes of that block come before their end.
+    // Return the block in which its bytes end, and how many bytes of that block come before their end.
     fn end_block(&self) -> u64
         requires { self.now.offset + self.now.length < 2 ^ 64 }
         ensures { result ≡ end_block self.now }
@@ -85,7 +85,7 @@ impl Request {
         ((self.offset + u64::from(self.length)) % SECTOR as u64) as usize
     }
 
-    /// How many blocks it touches.
+    /// Returns how many blocks it touches.
     fn touched(&self) -> usize
         requires { is_too_long self.now ≡ false }
         ensures value { result ≡ blocks_touched (bytes_skipped self.now) self.now.length }
@@ -99,15 +99,15 @@ impl Request {
     }
 }
 
-/// How many bytes an array has.
+/// Returns the size of an array in bytes.
 pub(crate) fn array_size<C: StripeCode>(array: &ObservedArray<C>) -> u64
     ensures { result ≡ size_of array.now.member.array.geometry }
 {
     SECTOR as u64 * array.geometry().blocks()
 }
 
-/// Does on the array what a request asks for, and tells what came of it. The bytes of a WRITE are in the buffer, where those of a
-/// READ will be.
+/// Does on the array what a request asks for, and returns the reply. The bytes of a WRITE are in the buffer, where
+/// those of a READ will be.
 pub(crate) fn respond<C: StripeCode, R: Rack>(
     request: &Request,
     array: &mut ObservedArray<C>,
@@ -177,7 +177,7 @@ fn read<C: StripeCode, R: Rack>(
     }
 }
 
-// Reads blocks, from this one on, up to the first that is refused.
+// Reads blocks from `first` on, up to the first that is refused.
 fn read_blocks<C: StripeCode, R: Rack>(
     first: u64,
     array: &mut ObservedArray<C>,
@@ -205,7 +205,7 @@ fn read_blocks<C: StripeCode, R: Rack>(
     Ok(())
 }
 
-// Writes the bytes of a request, and around them what the blocks hold that they touch in part.
+// Writes the bytes of a request. Blocks that they touch in part keep what they hold around them.
 fn write<C: StripeCode, R: Rack>(
     request: &Request,
     array: &mut ObservedArray<C>,
@@ -274,7 +274,7 @@ fn write_touched<C: StripeCode, R: Rack>(
     )
 }
 
-// Reads what the first and the last block hold beside the bytes of a request.
+// Reads what the first and the last block hold around the bytes of a request.
 fn read_around<C: StripeCode, R: Rack>(
     request: &Request,
     array: &mut ObservedArray<C>,
@@ -314,7 +314,7 @@ fn read_around<C: StripeCode, R: Rack>(
     Ok(())
 }
 
-// Writes blocks, from this one on, by each step up to the end of a stripe, up to the first that is refused.
+// Writes blocks from `first` on, up to the first step that is refused. Each step writes up to the end of a stripe.
 fn write_blocks<C: StripeCode, R: Rack>(
     first: u64,
     array: &mut ObservedArray<C>,

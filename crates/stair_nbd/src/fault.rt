@@ -1,15 +1,15 @@
 use stair_command::Status;
 
-/// Why a session was brought to an end by something other than its client's word or the end of its input before a message.
+/// Why a session ended otherwise than by its client or by the end of its input before a message.
 #[derive(Clone, Copy, Debug, PartialEq, Eq)]
 pub enum NbdFault {
-    /// The input ended within a message, or within its header: that has `needed` bytes, of which `took` came.
+    /// The input ended within a message or within its header, which has `needed` bytes; `took` of them came.
     Input { needed: u64, took: u64 },
     /// The source failed.
     InputFault,
-    /// The sink failed, and a part of a reply may have been put out.
+    /// The sink failed. A part of a reply may have been written.
     OutputFault,
-    /// This message, counted from 1, isn't one of the protocol, or came too late.
+    /// This message, counted from 1, is not of the protocol, or came too late.
     BadMessage(u64),
 }
 

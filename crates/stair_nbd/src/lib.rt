@@ -1,8 +1,9 @@
-//! An array as a block device of others: one session of an NBD client over a source and a sink.
+//! An array as a network block device: one session of an NBD client over a source and a sink.
 //!
-//! [`session`] speaks the fixed newstyle of the protocol (`doc/proto.md` of the NBD project) for one export, the whole array: its
-//! size is 512 bytes a block. It serves READ, WRITE, FLUSH and DISC. Of the options it knows the one that names the export, by any
-//! name, and ABORT; any other is answered that it isn't supported, so TLS, structured replies, LIST, INFO and GO are left out.
+//! [`session`] speaks the fixed newstyle of the protocol (`doc/proto.md` of the NBD project) for one export, the whole
+//! array, with 512 bytes a block. It serves READ, WRITE, FLUSH and DISC. It knows two options: ABORT, and the one that
+//! names the export, by any name. Other options are answered as unsupported: TLS, structured replies, LIST, INFO and GO
+//! among them.
 #![tactic(auto)]
 
 mod blocks;

@@ -2,7 +2,7 @@ ghost use Rattle.std.specs.Prelude.{◌≡◌, ◌+◌, ◌≤◌, ◌<◌, true
 ghost use Rattle.stair_nbd.specs.Client.{SESSION_LIMIT as LIMIT};
 ghost use Rattle.stair_nbd.specs.Sessions.{IsPlace};
 
-/// After so many bytes no message may begin any more.
+/// The number of input bytes after which no message may begin.
 pub const SESSION_LIMIT: u64 = 1 << 40;
 
 /// Where the next message of a session begins.
@@ -15,7 +15,7 @@ pub(crate) struct MessagePosition {
 }
 
 impl MessagePosition {
-    /// Where the message after one of so many bytes begins.
+    /// Returns where the message after one of `bytes` bytes begins.
     pub(crate) fn behind(self, bytes: u64) -> MessagePosition
         requires some { 0 < bytes }
         requires few { self.number ≤ self.taken }
@@ -31,7 +31,7 @@ impl MessagePosition {
         }
     }
 
-    /// Whether a message that begins here comes too late.
+    /// Returns whether a message that begins here comes too late.
     pub(crate) fn is_too_late(self) -> bool
         ensures late { result ≡ true → LIMIT ≤ self.taken }
         ensures early { result ≡ false → self.taken < LIMIT }

@@ -2,7 +2,7 @@ ghost use Rattle.std.specs.Prelude.{◌≡◌};
 
 use crate::wire::ReplyError;
 
-/// What a request came to: an error, or none, and the part of the blocks that has the bytes of the reply.
+/// The result of a request: an error or none, and the part of the blocks that has the bytes of the reply.
 #[derive(Clone, Copy)]
 pub(crate) struct Reply {
     pub(crate) error: ReplyError,
@@ -11,7 +11,7 @@ pub(crate) struct Reply {
 }
 
 impl Reply {
-    /// A reply of no bytes.
+    /// Returns a reply of no bytes.
     pub(crate) fn of(error: ReplyError) -> Reply
         ensures error { result.error ≡ error }
         ensures short { result.length ≡ 0 }

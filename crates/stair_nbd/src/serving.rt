@@ -22,18 +22,21 @@ use stair_base::{SECTOR, StripeCode};
 use stair_command::ObservedArray;
 use stair_rack::{Rack, Sink, Source, Watcher};
 
-/// How many bytes the buffer of a session has: a header of a reply, and the blocks that the most bytes of a request touch, which are
-/// one more than they fill.
+/// The size of a session's buffer in bytes. It has room for the header of a reply and for all blocks that a request can
+/// touch, one more than its most bytes fill.
 pub const BUFFER: usize = REPLY_LENGTH + 65_537 * SECTOR;
 
-/// Serves one client of an open array, from the greeting on up to the end of its input or its word that it goes.
+/// Serves one client of an open array, from the greeting until its input ends or it disconnects.
 ///
-/// Each reply is put out before more is taken. READ reads all blocks that it touches before its reply is begun. WRITE writes the
-/// blocks of a stripe as one step; what its first and its last block hold beside its bytes is read before. A reply's error is EIO
-/// where a step was refused, for whatever reason, or the array was stopped by one before: the blocks that were written by then stand.
-/// A reply comes when all of a WRITE stands, so FLUSH has nothing to do.
+/// Each reply is written before more is taken. READ reads all blocks that it touches before its reply begins. WRITE
+/// first reads what its first and its last block hold around its bytes; then it writes the blocks of a stripe as one
+/// step.
 ///
-/// The buffer has [`BUFFER`] bytes; no memory is taken beside it.
+/// A reply's error is EIO if a step was refused, for whatever reason, or if an earlier one stopped the array. The
+/// blocks that were written before the error stay written. The reply to a WRITE comes after all its blocks are written;
+/// FLUSH does nothing.
+///
+/// The buffer has [`BUFFER`] bytes. It allocates no other memory.
 pub fn session<C: StripeCode, R: Rack, S: Source, K: Sink>(
     array: &mut ObservedArray<C>,
     rack: &mut R,
@@ -59,8 +62,8 @@ pub fn session<C: StripeCode, R: Rack, S: Source, K: Sink>(
     }
 }
 
-// The handshake, up to the option that names the export, after which comes the first request; none comes where the client or the
-// input ended before.
+// Does the handshake, up to the option that names the export, and returns where the first request begins. It returns
+// None if the client or the input ended before.
 fn shake_hands<S: Source, K: Sink>(
     size: u64,
     buffer: &mut [u8],
@@ -130,7 +133,7 @@ fn answer_options<S: Source, K: Sink>(
     Ok(None)
 }
 
-// Answers requests up to the client's word that it goes, or the end of the input before one.
+// Answers requests until the client disconnects, or the input ends before one.
 fn answer_requests<C: StripeCode, R: Rack, S: Source, K: Sink>(
     mut place: MessagePosition,
     array: &mut ObservedArray<C>,

@@ -1,4 +1,4 @@
-// What is taken of a client's messages, and what is put out to it.
+// Takes a client's messages, and writes what it is answered.
 ghost use Rattle.std.specs.Prelude.{◌≡◌, ◌++◌, ◌+◌, ◌*◌, ◌≤◌, ◌<◌, ℕ, List, IfErr, IfOk, drop, length};
 ghost use Rattle.stair_command.specs.Outside.{sink_view, source_view};
 ghost use Rattle.stair_command.specs.Program.{Over, Program, Put};
@@ -14,10 +14,10 @@ use crate::wire::{REPLY_LENGTH, REQUEST_LENGTH, Request, simple_reply};
 use stair_command::{Filled, put_all, take_at_least};
 use stair_rack::{Sink, Source};
 
-/// A request has so many bytes of data at most.
+/// The most bytes of data that a request may have.
 pub(crate) const DATA_LIMIT: u32 = 1 << 25;
 
-/// Takes a header whole. It tells whether there was one: the input may end before it.
+/// Takes a whole header. Returns false if the input ended before it.
 pub(crate) fn take_header<S: Source>(input: &mut S, header: &mut [u8]) -> Result<bool, NbdFault>
     requires { 0 < length header.old }
     ensures { (k : List ℕ → Program) → TakesTo (source_view S.Source)
@@ -36,7 +36,7 @@ pub(crate) fn take_header<S: Source>(input: &mut S, header: &mut [u8]) -> Result
     }
 }
 
-/// Takes the bytes after a header of so many.
+/// Takes the bytes after a header.
 pub(crate) fn take_data<S: Source>(
     input: &mut S,
     header: usize,
@@ -62,7 +62,7 @@ pub(crate) fn take_data<S: Source>(
     }
 }
 
-/// Takes the bytes after a header of so many, and drops them.
+/// Takes the bytes after a header, and drops them.
 pub(crate) fn drop_data<S: Source>(
     input: &mut S,
     header: usize,
@@ -94,8 +94,8 @@ pub(crate) fn drop_data<S: Source>(
     Ok(())
 }
 
-/// Takes the bytes after the header of a request. Those that are to be written are then in the buffer, after as many as the first
-/// of their blocks has before them.
+/// Takes the bytes after the header of a request. Bytes that are to be written are then in the buffer, after as many as
+/// their first block has before them.
 pub(crate) fn take_request_data<S: Source>(
     input: &mut S,
     request: &Request,
@@ -118,7 +118,7 @@ pub(crate) fn take_request_data<S: Source>(
     )
 }
 
-/// Looks for the end of the input where no message may begin any more.
+/// Checks that the input ends at a place where no message may begin any more.
 pub(crate) fn take_end<S: Source>(input: &mut S, place: MessagePosition) -> Result<(), NbdFault>
     ensures { TakesTo (source_view S.Source)
         (comes_too_late place.number) (Over (status_of result)) input.old input.new }
@@ -130,7 +130,7 @@ pub(crate) fn take_end<S: Source>(input: &mut S, place: MessagePosition) -> Resu
     }
 }
 
-/// Puts the bytes out.
+/// Writes the bytes to the output.
 pub(crate) fn put<K: Sink>(output: &mut K, bytes: &[u8]) -> Result<(), NbdFault>
     ensures { (rest : Program) → PutsTo (sink_view K.Sink)
         (Put bytes.now rest) (after_done result rest) output.old output.new }
@@ -141,8 +141,8 @@ pub(crate) fn put<K: Sink>(output: &mut K, bytes: &[u8]) -> Result<(), NbdFault>
     }
 }
 
-/// Puts a reply out as one piece: its header, which is written before its bytes, and these. They are in the buffer, after room for a
-/// header.
+/// Writes a reply as one piece: its header and its bytes. The bytes are in the buffer after room for a header, which is
+/// filled in right before them.
 pub(crate) fn put_reply<K: Sink>(
     output: &mut K,
     reply: Reply,

@@ -18,15 +18,15 @@ ghost use Rattle.stair_nbd.specs.Wire.{
 
 use stair_watch::Line;
 
-/// How many bytes the client's flags have, which are its first message.
+/// The length in bytes of the client's flags, its first message.
 pub(crate) const FLAGS_LENGTH: usize = 4;
-/// How many bytes the header of an option has.
+/// The length in bytes of the header of an option.
 pub(crate) const OPTION_LENGTH: usize = 16;
-/// How many bytes an option has after its header at most.
+/// The most bytes that an option may have after its header.
 const OPTION_DATA_LIMIT: u32 = 4096;
-/// How many bytes the header of a request has.
+/// The length in bytes of the header of a request.
 pub(crate) const REQUEST_LENGTH: usize = 28;
-/// How many bytes the header of a reply has.
+/// The length in bytes of the header of a reply.
 pub(crate) const REPLY_LENGTH: usize = 16;
 
 const NBD_MAGIC: &[u8; 8] = b"NBDMAGIC";
@@ -69,7 +69,7 @@ pub(crate) enum Command {
     Write,
     Disconnect,
     Flush,
-    /// What isn't known here.
+    /// An unknown command.
     Other,
 }
 
@@ -77,7 +77,7 @@ pub(crate) enum Command {
 #[derive(Clone, Copy)]
 pub(crate) struct Request {
     pub(crate) command: Command,
-    /// By which the client knows the reply.
+    /// The number by which the client recognizes the reply.
     pub(crate) cookie: u64,
     /// The first of its bytes, and how many there are.
     pub(crate) offset: u64,
@@ -90,9 +90,9 @@ pub(crate) enum ReplyError {
     None,
     /// A step on the array was refused.
     Io,
-    /// It isn't known, or its bytes aren't there to be read.
+    /// The request is unknown or too long, or a READ past the end.
     Invalid,
-    /// Its bytes are past the array's.
+    /// A WRITE past the end of the array.
     NoSpace,
 }
 
@@ -128,7 +128,8 @@ impl Command {
 }
 
 impl Request {
-    /// What a header asks for, unless its magic is wrong. Flags aren't looked at: each write that is answered stands.
+    /// Returns what a header asks for, or None if its magic is wrong. Flags are ignored: each write that is answered is
+    /// done.
     pub(crate) fn read(header: &[u8; REQUEST_LENGTH]) -> Option<Request>
         ensures { result ≡ request_in header.now }
     {
@@ -143,14 +144,14 @@ impl Request {
         })
     }
 
-    /// Whether the client says that it goes.
+    /// Returns whether the client disconnects.
     pub(crate) fn is_disconnect(&self) -> bool
         ensures { result ≡ ends_session self.now.command }
     {
         matches!(self.command, Command::Disconnect)
     }
 
-    /// How many bytes come after its header.
+    /// Returns how many bytes come after its header.
     pub(crate) fn data_length(&self) -> u32
         ensures { result ≡ length_of_data self.now }
     {
@@ -162,7 +163,7 @@ impl Request {
 }
 
 impl OptionRequest {
-    /// What a header asks for, unless its magic is wrong or too many bytes come after it.
+    /// Returns what a header asks for, or None if its magic is wrong or too many bytes come after it.
     pub(crate) fn read(header: &[u8; OPTION_LENGTH]) -> Option<OptionRequest>
         ensures { result ≡ option_in header.now }
     {
@@ -180,7 +181,7 @@ impl OptionRequest {
     }
 }
 
-/// What a client's flags say: whether zeros are to be left out. None where one is set that isn't known.
+/// Returns whether a client's flags ask for zeros to be left out, or None if an unknown flag is set.
 pub(crate) fn read_flags(flags: &[u8; FLAGS_LENGTH]) -> Option<bool>
     ensures { result ≡ flags_said flags.now }
 {
@@ -191,7 +192,7 @@ pub(crate) fn read_flags(flags: &[u8; FLAGS_LENGTH]) -> Option<bool>
     }
 }
 
-/// What is said first.
+/// Returns the greeting, the first bytes of a session.
 pub(crate) fn greeting() -> Line
     ensures { result ≡ first_words }
 {
@@ -202,7 +203,7 @@ pub(crate) fn greeting() -> Line
     words
 }
 
-/// The reply to an option other than the one that names the export.
+/// Returns the reply to an option other than the one that names the export.
 pub(crate) fn option_reply(option: u32, reply: u32) -> Line
     ensures { result ≡ reply_to_option option reply }
 {
@@ -214,7 +215,7 @@ pub(crate) fn option_reply(option: u32, reply: u32) -> Line
     words
 }
 
-/// The answer to the option that names the export, of so many bytes.
+/// Returns the answer to the option that names the export, which has `size` bytes.
 pub(crate) fn export_answer(size: u64, brief: bool) -> Line
     ensures { result ≡ answer_to_export size brief }
 {
@@ -227,7 +228,7 @@ pub(crate) fn export_answer(size: u64, brief: bool) -> Line
     words
 }
 
-/// The header of the reply to a request.
+/// Returns the header of the reply to a request.
 pub(crate) fn simple_reply(error: ReplyError, cookie: u64) -> Line
     ensures bytes { result ≡ reply_to_request error cookie }
     ensures long { length result ≡ REPLY_LENGTH }
