@@ -10,7 +10,7 @@ use Rattle.stair_volume.specs.Changes.{volume_of}
 use Rattle.stair_volume.specs.Table.{extent_of}
 use Rattle.stair_volume.specs.Volumes.{HasVolumes, IsAmong, Volume, VolumesReadAlike, volume_at}
 
--- where one of the name stands
+-- where a volume of the name is
 module _ (count : ℕ) (held : Blocks) (volumes : List Volume) (has : HasVolumes count held volumes) (name : List ℕ) (v : Volume)
     (among : IsAmong volumes name v) where
   abbrev entries : List Entry

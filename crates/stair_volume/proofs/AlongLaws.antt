@@ -1,4 +1,5 @@
--- What is so of what an array holds at each moment of a trace, since it is so along the program that the trace follows.
+-- What holds for the content of an array at each moment of a trace, because it holds along the program that the trace
+-- follows.
 use Rattle.std.proofs.Common.{◌≡◌, ◌≢◌, ◌∙◌, ◌<◌, ◌++◌, ◌⊎◌, ℕ, List, [], ◌∷◌, append-nil, append_assoc, inl, inr, length, Option, None, Some, Ok, Err, refl, sym, ap, subst}
 use Rattle.std.specs.Prelude.{Bool, false}
 use Rattle.stair_rack.specs.History.{Happening}
@@ -85,8 +86,8 @@ put_more put (Did action outcome) trace = ap (λ (l : List ℕ). l ++ put_in tra
 put_more put (Stepped step answer events left) trace = ap (λ (l : List ℕ). l ++ put_in trace) (append-nil put)
 
 module _ (IsSo : List ℕ → Content → Type 0) (IsEnd : Come → Type 0) where
-  -- From here on, whatever the outside and an array that holds this answer, it is so of all that it holds on the way, and where all is
-  -- done it ends so. Only blocks are read and written.
+  -- From here on `IsSo` holds for all content on the way, and `IsEnd` holds once all is done. This holds for all
+  -- answers of the outside and of an array with this content. Only blocks are read and written.
   abbrev pub Stays : Program → Come → Type 0
   Stays (Over status) come = IsSo come.taken come.content × (status ≡ Done → IsEnd come)
   Stays (Ask question k) come = IsSo come.taken come.content × ((reply : Reply question) → IsReply question reply → Stays (k reply) come)
@@ -105,7 +106,7 @@ module _ (IsSo : List ℕ → Content → Type 0) (IsEnd : Come → Type 0) wher
   Stays (Try step k) come = ⊥
   Stays (RebuildAll slots done k) come = ⊥
 
-  -- it is so of what is held now
+  -- this holds for the content now
   pub stays_now : (program : Program) (come : Come) → Stays program come → IsSo come.taken come.content
   stays_now (Over status) come stays = stays.0
   stays_now (Ask question k) come stays = stays.0
@@ -118,7 +119,8 @@ module _ (IsSo : List ℕ → Content → Type 0) (IsEnd : Come → Type 0) wher
   stays_now (Try step k) come stays = absurd stays
   stays_now (RebuildAll slots done k) come stays = absurd stays
 
-  -- what an item comes to: it is so, whatever becomes of a doubt; and the program goes on so, or the array was stopped, and the program is over
+  -- The result of an item: `IsSo` holds, whether a change in doubt is made or not. The program continues to satisfy
+  -- `Stays`; or the array was stopped and the program is over.
   pub record Comes (rest : Program) (new : Now) (last : Come) : Type 0 where
     pub so : IsSo last.taken new.state.content
     pub so_maybe : IsSo last.taken (new_content new.state)

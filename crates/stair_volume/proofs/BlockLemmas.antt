@@ -68,7 +68,7 @@ blocks_from-these held (bytes ∷ contents) first are = λ i.
     ∷ blocks_from-these held contents (first + 1)
     (λ k below. ap held (let next : first + 1 + k ≡ first + suc k = omega arith in next) ∙ are (suc k) (omega (arith, below))) i
 
--- what is held beside blocks that are these is what was
+-- the blocks from `first` on are these contents, and all others are as they were
 pub record IsSetTo (held now : Blocks) (first : ℕ) (contents : List (List ℕ)) : Type 0 where
   pub beside : (b : ℕ) → (b < first) ⊎ (first + length contents ≤ b) → now b ≡ held b
   pub set : (k : ℕ) → k < length contents → now (first + k) ≡ get_or contents k []

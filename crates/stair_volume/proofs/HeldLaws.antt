@@ -67,11 +67,11 @@ keeps_by count held now zero_same same = record {
 pub keeps_same : (count : ℕ) (held : Blocks) → KeepsVolumes count held held
 keeps_same count held = keeps_by count held held refl (λ t is k d within. refl)
 
--- what is held beside a range is what was
+-- blocks outside a range are as they were
 abbrev pub IsBeside : Extent → Blocks → Blocks → Type 0
 IsBeside extent held now = (b : ℕ) → (b < extent.first) ⊎ (end_of extent ≤ b) → now b ≡ held b
 
--- and so is a volume that is apart from it
+-- a volume apart from the range is as it was
 apart_same : (held now : Blocks) (extent : Extent) (e : Entry) → IsBeside extent held now → AreApart e.extent extent → volume_at now e ≡ volume_at held e
 apart_same held now extent e beside (inl before) =
     ap (λ (blocks : List (List ℕ)). let v : Volume = record { name = e.name; blocks = blocks } in v)
@@ -114,7 +114,7 @@ pub record IsTableSet (count : ℕ) (held now : Blocks) (t : Table) : Type 0 whe
   pub rules : IsTable t
   pub size : t.blocks ≡ count
 
--- so it is the table
+-- block 0 is then the table
 set_has : (count : ℕ) (held now : Blocks) (t : Table) → IsTableSet count held now t → HasTable count (now 0) t
 set_has count held now t set =
     subst (λ (bytes : List ℕ). HasTable count bytes t) (sym set.is)
@@ -130,7 +130,7 @@ pub ready_done : (count : ℕ) (held now : Blocks) → HasNone count held → Is
 ready_done count held now none set =
     record { volumes = []; begins = none; fits = tt; has = has_volumes count now (table_with count []) (set_has count held now (table_with count []) set) }
 
--- a volume of zeros more
+-- a volume of zeros added
 pub made_done : (count : ℕ) (held mid now : Blocks) (t t' : Table) (name : List ℕ) (blocks : ℕ) → HasTable count (held 0) t → IsName name → 1 ≤ blocks
     → (adds : Adds t t' name blocks) → IsBeside (extent_of adds.first blocks) held mid
     → ((b : ℕ) → adds.first ≤ b → b < adds.first + blocks → mid b ≡ zero_block)
@@ -160,7 +160,7 @@ made_done count held mid now t t' name blocks has is_name some adds beside zeros
       };
     }
 
--- one volume less
+-- one volume removed
 pub removed_done : (count : ℕ) (held now : Blocks) (t t' : Table) (name : List ℕ) → HasTable count (held 0) t → without_volume t name ≡ Ok t'
     → t' ≡ without_entry t name → IsTableSet count held now t' → HasDone (volume.Remove name) [] count held now
 removed_done count held now t t' name has done is set =
@@ -228,7 +228,7 @@ named_extent t name extent rules found k d within named =
     let among : Contains t.entries (volume_of name e.extent) = (k, within, get_or_default t.entries k (volume_of name e.extent) d within ∙ is) in
     same_Some e.extent extent (sym ((find_is_volume t name e.extent rules).1 among) ∙ found)
 
--- What the volumes are where blocks of one were written, from one of it on, and no others.
+-- The volumes after blocks of one of them were written, from one of its blocks on, and no others.
 written_volumes : (held now : Blocks) (t : Table) (name : List ℕ) (extent : Extent) (block : ℕ) (contents : List (List ℕ)) → IsTable t
     → find_in t.entries name ≡ Some extent → (0 < length contents → block + length contents ≤ extent.blocks)
     → IsSetTo held now (extent.first + block) contents → (k : ℕ) (d : Entry) → k < length t.entries

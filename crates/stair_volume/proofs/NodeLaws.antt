@@ -1,4 +1,4 @@
--- What is so of each node of a command's program by what comes after it is so of the program.
+-- What holds for each node of a command's program, given that it holds after it, holds for the program.
 use Rattle.std.proofs.Common.{◌≢◌, ◌+◌, ◌++◌, ◌-◌, ◌*◌, ◌/◌, ◌==◌, ℕ, zero, suc, Bool, true, false, List, [], ◌∷◌, length, replicate, Option, None, Some, Ok, Err, Result}
 use Rattle.std.specs.Prelude.{nat_lt}
 use Rattle.stair_model.specs.Geometry.{Geometry, block_count}

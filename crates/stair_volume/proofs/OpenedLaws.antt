@@ -1,4 +1,4 @@
--- A call that opens an array and does a command on its volumes: what came of it by any moment.
+-- A call that opens an array and does a command on its volumes: its result at any moment.
 use Rattle.std.proofs.Common.{◌≡◌, ◌∙◌, ◌⊎◌, ℕ, List, [], ◌∷◌, inl, inr, Option, None, Some, Ok, Err, refl, sym, ap, subst}
 use Rattle.std.specs.Prelude.{Bool}
 use Rattle.stair_model.specs.Geometry.{Geometry, IsWithinLimits, block_count}

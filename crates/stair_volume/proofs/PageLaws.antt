@@ -1,4 +1,4 @@
--- Where each entry stands in the bytes of a table, and what is read there.
+-- The place of each entry in the bytes of a table, and what is read there.
 use Rattle.std.proofs.Common.{◌≡◌, ℕ, zero, suc, ◌+◌, ◌-◌, ◌*◌, ◌<◌, ◌≤◌, ◌^◌, ◌/◌, ◌%◌, List, [], ◌∷◌, ◌++◌, length, get_or, take, drop, map, replicate, refl, sym, ap, ◌∙◌, append_assoc, arith, add-zero, ltb, true}
 use Rattle.std.specs.Prelude.{All, codes, flat_map}
 use Rattle.std.specs.Int.{w32, w64, byte_at, bytes_high_first, from_be_bytes, to_be_bytes}
@@ -65,7 +65,7 @@ length-table_bytes entries room few = omega (
   length-replicate {A = ℕ} (480 - 32 * length entries) 0,
 )
 
--- what stands after an entry
+-- the bytes from a place on are an entry and a rest
 pub record StandsAt (bytes : List ℕ) (at : ℕ) (entry : Entry) : Type 0 where
   pub rest : List ℕ
   pub text : drop at bytes ≡ entry_bytes entry ++ rest
@@ -90,7 +90,7 @@ among (entry ∷ later) (suc k) d rest room lt =
           ∙ behind.text;
     }
 
--- entry k stands at its place
+-- the bytes hold entry k at its place
 pub stands_at_place : (entries : List Entry) (k : ℕ) (d : Entry) → All HasRoom entries → k < length entries → StandsAt (table_bytes entries) (place_of k) (get_or entries k d)
 unfolding table_bytes
 stands_at_place entries k d room lt =
@@ -109,7 +109,7 @@ pub count_stands : (entries : List Entry) → get_or (table_bytes entries) 8 0 �
 unfolding table_bytes
 count_stands entries = refl
 
--- what stands at a place is the field, and after it the rest
+-- the bytes from a place on are the field and a rest
 field_at : (bytes field rest : List ℕ) (at size : ℕ) → drop at bytes ≡ field ++ rest → length field ≡ size → take size (drop at bytes) ≡ field
 field_at bytes field rest at size here sized = ap (λ (l : List ℕ). take size l) here ∙ take_at field rest size sized
 
@@ -130,7 +130,7 @@ long_back bytes rest at n here fits =
     ap (λ (l : List ℕ). from_be_bytes w64 l) (field_at bytes (to_be_bytes w64 n) rest at 8 here refl)
     ∙ from_be_bytes-to_be_bytes_8 n fits
 
--- a byte that stands at a place
+-- the byte at a place
 byte_back : (bytes rest : List ℕ) (at byte : ℕ) → drop at bytes ≡ byte ∷ rest → get_or bytes at 0 ≡ byte
 byte_back bytes rest at byte here =
     ap (λ (n : ℕ). get_or bytes n 0) (sym (add-zero at)) ∙ sym (get_or-drop at bytes 0 0) ∙ ap (λ (l : List ℕ). get_or l 0 0) here
@@ -149,7 +149,7 @@ high_fits n fits = div_below n (2 ^ 32) 256 (omega arith) fits
 five : (a b c d x : List ℕ) (byte : ℕ) → (a ++ (b ++ (byte ∷ (c ++ d)))) ++ x ≡ a ++ (b ++ (byte ∷ (c ++ (d ++ x))))
 five a b c d x byte = simp append_assoc
 
--- an entry that stands at a place is read there
+-- an entry is read from the place where the bytes hold it
 pub entry_at-place : (bytes : List ℕ) (k : ℕ) (entry : Entry) → HasRoom entry → StandsAt bytes (place_of k) entry → entry_at bytes k ≡ entry
 unfolding entry_at entry_bytes
 entry_at-place bytes k entry room here =
@@ -178,7 +178,7 @@ entry_at-place bytes k entry room here =
 pub entry_at-table_bytes : (entries : List Entry) (k : ℕ) (d : Entry) → All HasRoom entries → k < length entries → entry_at (table_bytes entries) k ≡ get_or entries k d
 entry_at-table_bytes entries k d room lt = entry_at-place (table_bytes entries) k (get_or entries k d) (room k d lt) (stands_at_place entries k d room lt)
 
--- and so are they all
+-- all entries are read
 pub entries_read : (entries : List Entry) → All HasRoom entries → map (entry_at (table_bytes entries)) (range_with_len 0 (length entries)) ≡ entries
 entries_read [] room = refl
 entries_read (entry ∷ later) room =

@@ -15,7 +15,7 @@ use Rattle.stair_volume.specs.Page.{HasEntries, HasNoName, HasTable, entry_at, l
 use Rattle.stair_volume.proofs.TestLaws.{Decides-table}
 use Rattle.stair_volume.proofs.PageLaws.{AllHaveRoom-table, count_stands, entry_at-table_bytes, table_at-table_bytes}
 
--- the table that bytes are is the one whose entries stand there
+-- the table that bytes are has the entries that they hold
 pub table_at-is : (blocks : ℕ) (bytes : List ℕ) (table : Table) → HasTable blocks bytes table → table_at blocks bytes ≡ table
 table_at-is blocks bytes table has =
     ap (table_at blocks) has.text
@@ -82,7 +82,7 @@ exactly_read blocks bytes read is table = (
 pub count_is : (blocks : ℕ) (bytes : List ℕ) (table : Table) → HasTable blocks bytes table → get_or bytes 8 0 ≡ length table.entries
 count_is blocks bytes table has = ap (λ (l : List ℕ). get_or l 8 0) has.text ∙ count_stands table.entries
 
--- so it is at most 15
+-- byte 8 is at most 15
 pub too_many : (blocks : ℕ) (bytes : List ℕ) → 15 < get_or bytes 8 0 → (table : Table) → HasTable blocks bytes table → ⊥
 too_many blocks bytes many table has = omega (arith, has.rules.few, count_is blocks bytes table has)
 
@@ -96,7 +96,7 @@ unnamed blocks bytes count counted nameless table has =
     ap (λ (l : List ℕ). entry_at l k) has.text ∙ entry_at-table_bytes table.entries k d (AllHaveRoom-table table has.rules) within in
     nameless.2 (subst (λ (e : Entry). IsName e.name) (sym is) (has.rules.volumes k d within).name)
 
--- and they are those that stand there
+-- the table has the entries that the bytes hold
 pub entries_are : (blocks : ℕ) (bytes : List ℕ) (count : ℕ) (entries : List Entry) → count ≡ get_or bytes 8 0 → HasEntries bytes count entries → (table : Table) → HasTable blocks bytes table → table ≡ table_with blocks (take count entries)
 unfolding table_at
 entries_are blocks bytes count entries counted stand table has =
@@ -126,7 +126,7 @@ name_read bytes k count counted =
     let same : place_of k + 1 + count - (place_of k + 1) ≡ get_or bytes (place_of k) 0 = omega arith in
     ap (λ (n : ℕ). take n (drop (place_of k + 1) bytes)) same
 
--- what stands at a place, by its parts
+-- the entry at a place, by its parts
 pub entry_read : (bytes : List ℕ) (k : ℕ) (name : List ℕ) (first blocks : ℕ) → name ≡ (entry_at bytes k).name → first ≡ long_at (place_of k + 20) bytes → blocks ≡ get_or bytes (place_of k + 19) 0 * 2 ^ 32 + number_at (place_of k + 28) bytes → volume_of name (extent_of first blocks) ≡ entry_at bytes k
 unfolding entry_at
 entry_read bytes k name first blocks name_is first_is blocks_is =

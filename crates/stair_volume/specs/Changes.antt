@@ -1,4 +1,4 @@
--- A volume more, and one less.
+-- What adding a volume and removing one make of the table.
 use Rattle.std.specs.Prelude.{◌≡◌, ◌≢◌, ℕ, ◌-◌, ◌<◌, ◌≤◌, true, not, List, [], ◌∷◌, ◌++◌, All, Contains, Option, None, Some, Result, Ok, Err, filter, find, is_some, length, nat_le, if◌then◌else◌}
 use Rattle.std.specs.List.{range_with_len}
 use Rattle.stair_volume.specs.declared.extent.Entry.{Entry}
@@ -9,12 +9,12 @@ use Rattle.stair_volume.specs.Table.{Table, IsWithin, AreApart, end_of, extent_o
 
 -- ROOM
 
--- within the array, and of no volume
+-- A range is free if it is within the array and no volume has a block of it.
 pub record IsFree (table : Table) (extent : Extent) : Type 0 where
   pub within : IsWithin table.blocks extent
   pub apart : All (λ entry. AreApart entry.extent extent) table.entries
 
--- what a search upwards goes on to: the block after a volume that has a block of it
+-- the block at which an upward search continues: the one after a volume that has a block of the range
 abbrev pub EndsMet : List Entry → Extent → (end : ℕ) → Type 0
 EndsMet entries extent end = (entry : Entry) × Contains entries entry
     × (meets entry.extent extent ≡ true) × (end ≡ end_of entry.extent)
@@ -29,7 +29,7 @@ unfoldable pub room : Table → (count : ℕ) → Option ℕ
 room table count = find (λ first. is_free table.entries (extent_of first count))
     (range_with_len 1 (table.blocks - count))
 
--- A VOLUME MORE
+-- ADDING A VOLUME
 
 abbrev pub volume_of : (name : List ℕ) → Extent → Entry
 volume_of name extent = record { name = name; extent = extent }
@@ -43,14 +43,14 @@ abbrev pub placed : Table → (name : List ℕ) → (count : ℕ) → Option ℕ
 placed table name count None = Err (NoRoom count)
 placed table name count (Some first) = Ok (with_entry table (volume_of name (extent_of first count)))
 
--- a volume of this name and so many blocks more, or what is told of the table
+-- the table with one volume of this name and `count` blocks added, or why it is not changed
 unfoldable pub with_volume : Table → (name : List ℕ) → (count : ℕ) → Result Table TableFault
 with_volume table name count =
     if is_some (find_in table.entries name) then Err NameTaken
     else (if nat_le 15 (length table.entries) then Err TableFull
     else placed table name count (room table count))
 
--- the new table has one volume more: at the end, with this name and the first so many blocks that are free
+-- The new table has one more volume, at its end. It has this name and the first free range of `count` blocks.
 pub record Adds (old new : Table) (name : List ℕ) (count : ℕ) : Type 0 where
   pub first : ℕ
   pub least : IsLeastFree old count first
@@ -58,7 +58,7 @@ pub record Adds (old new : Table) (name : List ℕ) (count : ℕ) : Type 0 where
   pub named_apart : All (λ entry. entry.name ≢ name) old.entries
   pub is : new ≡ with_entry old (volume_of name (extent_of first count))
 
--- A VOLUME LESS
+-- REMOVING A VOLUME
 
 abbrev pub without_entry : Table → (name : List ℕ) → Table
 without_entry table name =
@@ -69,7 +69,7 @@ unfoldable pub without_volume : Table → (name : List ℕ) → Result Table Tab
 without_volume table name =
     if is_some (find_in table.entries name) then Ok (without_entry table name) else Err NoVolume
 
--- the new table has one volume less, that of this name, and the others in their order
+-- The new table has one volume less, the one of this name, and the others in their order.
 pub record Removes (old new : Table) (name : List ℕ) : Type 0 where
   pub before : List Entry
   pub extent : Extent

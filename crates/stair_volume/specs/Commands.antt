@@ -1,4 +1,4 @@
--- What the commands on volumes do to an open array, of which block 0 is the table of them.
+-- What the commands on volumes do to an open array, whose block 0 is their table.
 use Rattle.std.specs.Prelude.{◌+◌, ◌-◌, ◌==◌, ℕ, zero, suc, List, [], ◌∷◌, ◌++◌, codes, replicate, Option, None, Some, Result, Ok, Err, ⊤}
 use Rattle.std.specs.Fmt.{decimal}
 use Rattle.stair_model.specs.Geometry.{Geometry, block_count}
@@ -32,7 +32,7 @@ status_of_table table.NameTaken = NameTaken
 status_of_table table.TableFull = TableFull
 status_of_table (table.NoRoom blocks) = NoRoom blocks
 
--- by an array of so many slots
+-- the status of a fault, for an array of `slots` slots
 abbrev pub status_of_volume : (slots : ℕ) → VolumeFault → Status
 status_of_volume slots fault.NoTable = NoTable
 status_of_volume slots fault.TableThere = TableThere
@@ -49,7 +49,7 @@ status_of slots (Err why) = status_of_volume slots why
 abbrev pub ready_line : List ℕ
 ready_line = codes "volumes ready" ++ 10 ∷ []
 
--- a volume's name, its first block, and how many it has
+-- a volume's name, its first block and its number of blocks
 abbrev pub volume_line : (name : List ℕ) → Extent → List ℕ
 volume_line name extent = name ++ (codes " first " ++ (decimal extent.first
     ++ (codes " blocks " ++ (decimal extent.blocks ++ 10 ∷ []))))
@@ -62,7 +62,8 @@ dropped_line name = codes "dropped " ++ (name ++ 10 ∷ [])
 
 -- STEPS
 
--- Zeros are written to so many blocks from this one on, those of a stripe as one step. There are no more turns than blocks.
+-- Writes zeros to `left` blocks from `first` on. Each step writes the blocks of one stripe. There are no more turns
+-- than blocks.
 abbrev pub clears : Geometry → (turns first left : ℕ) → (rest : Program) → Program
 clears g zero first left rest = rest
 clears g (suc turns) first left rest = if_so (left == 0) rest
@@ -70,24 +71,24 @@ clears g (suc turns) first left rest = if_so (left == 0) rest
     (λ ok. clears g turns (first + piece_blocks g first left)
     (left - piece_blocks g first left) rest))
 
--- the table is written
+-- writes the table
 abbrev pub sets_table : Geometry → Table → (rest : Program) → Program
 sets_table g table rest =
     take_step g.n (write_block 0 (table_bytes table.entries)) (λ ok. rest)
 
--- the blocks of a volume, if there is one of the name
+-- the program on the blocks of a volume, or the end if none has the name
 abbrev pub if_found : Option Extent → (Extent → Program) → Program
 if_found None k = Over NoVolume
 if_found (Some extent) k = k extent
 
--- so many blocks of a volume, counted from its first
+-- the program if a volume has these `count` blocks, counted from its first
 abbrev pub within_volume : Extent → (block count : ℕ) → Program → Program
 within_volume extent block count program =
     if_within extent.blocks block (is_within extent.blocks block count) program
 
--- A WAY FOR EACH COMMAND
+-- THE PROGRAM OF EACH COMMAND
 
--- all its blocks are zeros before the table has the new volume
+-- writes zeros to all blocks of the new volume before the table has it
 abbrev pub makes : Geometry → (name : List ℕ) → Result Table TableFault → Program
 makes g name (Err why) = Over (status_of_table why)
 makes g name (Ok table) = if_found (find_in table.entries name) (λ extent.
@@ -102,7 +103,7 @@ abbrev pub lists : List Entry → Program
 lists [] = Over Done
 lists (entry ∷ later) = Put (volume_line entry.name entry.extent) (lists later)
 
--- what is done where block 0 is this table, or none
+-- the program of a command, by the table that block 0 is, if any
 abbrev pub on_table : Geometry → VolumeJob → Option Table → Program
 on_table g volume.Ready None =
     sets_table g (table_with (block_count g) []) (Put ready_line (Over Done))
@@ -125,12 +126,12 @@ volume_program job g = take_step g.n (ReadBlock 0)
 
 -- KINDS
 
--- it takes its input
+-- The command takes input.
 abbrev pub TakesSome : VolumeJob → Type 0
 TakesSome (volume.Write name block count) = ⊤
 TakesSome _ = ⊥
 
--- something is put out before all is done
+-- The command writes output before it is done.
 abbrev pub PutsSome : VolumeJob → Type 0
 PutsSome volume.List = ⊤
 PutsSome (volume.Read name block count) = ⊤

@@ -6,8 +6,8 @@ use Rattle.stair_conf.specs.declared.job.VolumeJob.TheVariants as volume
 use Rattle.stair_status.specs.declared.status.Status.{Status}
 use Rattle.stair_status.specs.declared.status.Status.TheVariants.{Done, Frozen, Input, NameTaken, NoRoom, NoTable, NoVolume, OutOfRange, TableFull, TableThere}
 
--- All is done; or the table is such that it can't be, or the range isn't the volume's, or the input had another length, or the array
--- is frozen and was to be written.
+-- A command is done, or it ends for one of these reasons: the table does not allow it, the range is not within the
+-- volume, the input has another length, or the array is frozen and was to be written.
 abbrev pub MayEnd : VolumeJob → Status → Type 0
 MayEnd job Done = ⊤
 MayEnd volume.Ready TableThere = ⊤

@@ -11,12 +11,12 @@ use Rattle.stair_volume.specs.Table.{Table, IsTable, extent_of, is_table, table_
 abbrev pub zeros : ℕ → List ℕ
 zeros count = replicate count 0
 
--- bytes 0 to 31: `STAIRVT1`, how many entries there are, and zeros
+-- bytes 0 to 31: `STAIRVT1`, the number of entries, and zeros
 abbrev pub heading : ℕ → List ℕ
 heading count = codes "STAIRVT1" ++ (count ∷ zeros 23)
 
--- 32 bytes: the length of the name, the name in 16 bytes, two zeros, the high byte of how many blocks there are, the first block, and
--- the four low bytes of how many there are
+-- 32 bytes: the length of the name, the name in 16 bytes, two zeros, the high byte of the number of blocks, the first
+-- block, and the four low bytes of the number of blocks
 unfoldable pub entry_bytes : Entry → List ℕ
 entry_bytes entry = length entry.name ∷ (padded entry.name
     ++ (zeros 2 ++ (entry.extent.blocks / 2 ^ 32 ∷ (to_be_bytes w64 entry.extent.first
@@ -27,7 +27,7 @@ unfoldable pub table_bytes : List Entry → List ℕ
 table_bytes entries = heading (length entries)
     ++ (flat_map entry_bytes entries ++ zeros (480 - 32 * length entries))
 
--- The same where first block and number of blocks are below 2^32 each: seven zeros, and four bytes for each number.
+-- The same if first block and number of blocks are below 2^32: seven zeros, and four bytes for each number.
 abbrev pub small_entry_bytes : Entry → List ℕ
 small_entry_bytes entry = length entry.name ∷ (padded entry.name
     ++ (zeros 7 ++ (to_be_bytes w32 entry.extent.first ++ to_be_bytes w32 entry.extent.blocks)))
@@ -37,13 +37,13 @@ abbrev pub small_table_bytes : List Entry → List ℕ
 small_table_bytes entries = heading (length entries)
     ++ (flat_map small_entry_bytes entries ++ zeros (480 - 32 * length entries))
 
--- the bytes are those of a table of an array of so many blocks
+-- The bytes are those of a well-formed table of an array of `blocks` blocks.
 pub record HasTable (blocks : ℕ) (bytes : List ℕ) (table : Table) : Type 0 where
   pub of_array : table.blocks ≡ blocks
   pub rules : IsTable table
   pub text : bytes ≡ table_bytes table.entries
 
--- bytes with a field over those from a place on
+-- the bytes with a field written over those from `at` on
 unfoldable pub with_field : List ℕ → (at : ℕ) → (field : List ℕ) → List ℕ
 with_field bytes at field = take at bytes ++ (field ++ drop (at + length field) bytes)
 
@@ -57,11 +57,11 @@ number_at at bytes = from_be_bytes w32 (take 4 (drop at bytes))
 abbrev pub long_at : (at : ℕ) → List ℕ → ℕ
 long_at at bytes = from_be_bytes w64 (take 8 (drop at bytes))
 
--- where entry k stands
+-- the place of entry k
 abbrev pub place_of : ℕ → ℕ
 place_of k = 32 + 32 * k
 
--- what stands there
+-- the entry that the bytes hold at the place of entry k
 unfoldable pub entry_at : List ℕ → ℕ → Entry
 entry_at bytes k = let at = place_of k in record {
   name = take (slice_index bytes at) (drop (at + 1) bytes);
@@ -69,21 +69,21 @@ entry_at bytes k = let at = place_of k in record {
       (slice_index bytes (at + 19) * 2 ^ 32 + number_at (at + 28) bytes);
 }
 
--- of the first so many, some has no name
+-- One of the first `count` entries has no name.
 abbrev pub HasNoName : List ℕ → (count : ℕ) → Type 0
 HasNoName bytes count = (k : ℕ) × (k < count) × (¬ IsName (entry_at bytes k).name)
 
--- the first of these entries are those that stand there
+-- The first `count` of these entries are those that the bytes hold.
 abbrev pub HasEntries : List ℕ → (count : ℕ) → List Entry → Type 0
 HasEntries bytes count entries =
     take count entries ≡ map (entry_at bytes) (range_with_len 0 count)
 
--- as many entries as byte 8 says
+-- the table of as many entries as byte 8 says
 unfoldable pub table_at : (blocks : ℕ) → List ℕ → Table
 table_at blocks bytes =
     table_with blocks (map (entry_at bytes) (range_with_len 0 (slice_index bytes 8)))
 
--- those, where they are a well-formed table and the bytes are what it is written as
+-- the table that the bytes are; None if it is not well formed or is not written as these bytes
 unfoldable pub table_of : (blocks : ℕ) → List ℕ → Option Table
 table_of blocks bytes = let table = table_at blocks bytes in
     if is_table table && bytes_eq bytes (table_bytes table.entries) then Some table else None

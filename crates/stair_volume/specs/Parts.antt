@@ -1,4 +1,4 @@
--- What the parts of a command on volumes do, each up to where it hands on.
+-- What the parts of a command on volumes do, each up to where the next part takes over.
 use Rattle.std.specs.Prelude.{◌≡◌, ◌+◌, ◌<◌, ◌≤◌, ℕ, false, List, Result, Ok, Err, None, Some, max, ⊤}
 use Rattle.stair_array.specs.Faults.{refusal_for}
 use Rattle.stair_array.specs.declared.fault.ArrayFault.{ArrayFault}
@@ -17,17 +17,17 @@ use Rattle.stair_volume.specs.declared.table_fault.TableFault.TheVariants.{NoVol
 use Rattle.stair_volume.specs.Commands.{status_of_volume}
 use Rattle.stair_volume.specs.Table.{find_in}
 
--- after steps of an array of so many slots, of which one may be refused
+-- after steps of an array of `slots` slots, one of which may be refused
 abbrev pub after_steps : (slots : ℕ) → Result (Unit {0}) ArrayFault → (rest : Program) → Program
 after_steps slots (Ok done) rest = rest
 after_steps slots (Err why) rest = Over (status_of_refusal slots (refusal_for why))
 
--- after something that was done, or wasn't
+-- after a part that was done, or not
 abbrev pub after_done : (slots : ℕ) → Result (Unit {0}) VolumeFault → (rest : Program) → Program
 after_done slots (Ok done) rest = rest
 after_done slots (Err why) rest = Over (status_of_volume slots why)
 
--- after a change of the volumes, of which a line is put out
+-- after a change of the volumes, which is reported by a line
 abbrev pub after_line : (slots : ℕ) → Result (List ℕ) VolumeFault → Program
 after_line slots (Ok line) = Put line (Over Done)
 after_line slots (Err why) = Over (status_of_volume slots why)
@@ -37,15 +37,15 @@ abbrev pub MakesSome : VolumeJob → Type 0
 MakesSome (volume.Make name blocks) = 1 ≤ blocks
 MakesSome _ = ⊤
 
--- The volume of this name has so many blocks from that one on, and the first of them is this one of the array. Of none nothing is
--- said of it.
+-- The volume of this name has `count` blocks from `block` on, and the first of them is block `first` of the array. For
+-- a count of 0 nothing is said of the range.
 pub record IsFirstBlock (entries : List Entry) (name : List ℕ) (block count : ℕ) (first : ℕ) : Type 0 where
   pub extent : Extent
   pub found : find_in entries name ≡ Some extent
   pub within : 0 < count → block + count ≤ extent.blocks
   pub is : 0 < count → first ≡ extent.first + block
 
--- or it hasn't
+-- There is no such volume, or the range is not within it.
 abbrev pub IsNoRange : List Entry → (name : List ℕ) → (block count : ℕ) → VolumeFault → Type 0
 IsNoRange entries name block count (fault.Table NoVolume) = find_in entries name ≡ None
 IsNoRange entries name block count (fault.Array (array.OutOfRange asked limit)) =

@@ -1,9 +1,9 @@
--- How a table is kept.
+-- How a table is represented.
 use Rattle.std.specs.Prelude.{◌≡◌, ◌≤◌, length, take}
 use Rattle.stair_volume.specs.Table.{Table, IsTable, table_with}
 use Rattle.stair_volume.specs.declared.table.Table.TheInside.{Inside}
 
--- the first entries of 15
+-- the table of the first `len` of 15 entries
 abbrev pub shown : Inside → Table
 shown a = table_with a.blocks (take a.len a.entries)
 

@@ -7,7 +7,7 @@ use Rattle.stair_volume.specs.declared.extent.Entry.{Entry}
 use Rattle.stair_volume.specs.declared.extent.Extent.{Extent}
 
 pub record Table : Type 0 where
-  -- how many blocks the array has
+  -- the number of blocks of the array
   pub blocks : ℕ
   -- its volumes, in the order of the table
   pub entries : List Entry
@@ -17,7 +17,7 @@ table_with blocks entries = record { blocks = blocks; entries = entries }
 
 -- EXTENTS
 
--- so many blocks from this one on
+-- `blocks` blocks from `first` on
 abbrev pub extent_of : (first blocks : ℕ) → Extent
 extent_of first blocks = record { first = first; blocks = blocks }
 
@@ -25,25 +25,25 @@ extent_of first blocks = record { first = first; blocks = blocks }
 abbrev pub end_of : Extent → ℕ
 end_of extent = extent.first + extent.blocks
 
--- within an array of so many blocks, after block 0, where the table is
+-- The extent is within an array of `blocks` blocks, after block 0, which is the table.
 pub record IsWithin (blocks : ℕ) (extent : Extent) : Type 0 where
   pub behind_table : 1 ≤ extent.first
   pub inside : end_of extent ≤ blocks
 
--- no block is in both
+-- No block is in both.
 abbrev pub AreApart : Extent → Extent → Type 0
 AreApart a b = (end_of a ≤ b.first) ⊎ (end_of b ≤ a.first)
 
 -- TABLES
 
--- a volume of an array of so many blocks
+-- The entry is a volume of an array of `blocks` blocks.
 pub record IsVolume (blocks : ℕ) (entry : Entry) : Type 0 where
   pub name : IsName entry.name
   pub some : 1 ≤ entry.extent.blocks
   pub within : IsWithin blocks entry.extent
 
--- Well formed: of an array of fewer than 2^37 blocks there are at most 15 volumes, which have names of their own and blocks of their
--- own.
+-- A table is well formed if its array has fewer than 2^37 blocks and it has at most 15 volumes. No two of them share a
+-- name or a block.
 pub record IsTable (table : Table) : Type 0 where
   pub size : table.blocks < 2 ^ 37
   pub few : length table.entries ≤ 15

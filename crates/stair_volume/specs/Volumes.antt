@@ -1,4 +1,4 @@
--- The volumes that an array holds, and what becomes of them.
+-- The volumes that an array holds, before and after a command.
 use Rattle.std.specs.Prelude.{◌≡◌, ◌≢◌, ◌⊎◌, ◌+◌, ◌≤◌, ◌<◌, ℕ, zero, suc, Bool, List, [], ◌∷◌, ◌++◌, All, None, bytes_eq, drop, filter, length, map, not, replicate, take, if◌then◌else◌, ⊤}
 use Rattle.std.specs.List.{concat}
 use Rattle.stair_model.specs.Geometry.{IsWithinLimits, block_count}
@@ -28,7 +28,7 @@ pub record Volume : Type 0 where
   pub name : List ℕ
   pub blocks : List (List ℕ)
 
--- so many blocks from this one on
+-- `count` blocks from `first` on
 abbrev pub blocks_from : Blocks → (first count : ℕ) → List (List ℕ)
 blocks_from held first zero = []
 blocks_from held first (suc count) = held first ∷ blocks_from held (first + 1) count
@@ -40,13 +40,13 @@ volume_at held entry = record {
   blocks = blocks_from held entry.extent.first entry.extent.blocks;
 }
 
--- The blocks of an array of so many hold these volumes: block 0 is a table, of an entry for each.
+-- The blocks of an array of `count` blocks hold these volumes: block 0 is a table with an entry for each.
 pub record HasVolumes (count : ℕ) (held : Blocks) (volumes : List Volume) : Type 0 where
   pub table : Table
   pub is_table : HasTable count (held 0) table
   pub are : volumes ≡ map (volume_at held) table.entries
 
--- or block 0 is no table
+-- Block 0 is not a table.
 abbrev pub HasNone : (count : ℕ) → Blocks → Type 0
 HasNone count held = (table : Table) → ¬ HasTable count (held 0) table
 
@@ -55,12 +55,12 @@ HasNone count held = (table : Table) → ¬ HasTable count (held 0) table
 abbrev pub is_of : (name : List ℕ) → Volume → Bool
 is_of name v = bytes_eq v.name name
 
--- these in the place of blocks, from this one on
+-- the blocks with these contents in place of those from `block` on
 abbrev pub overwritten : (block : ℕ) → (contents blocks : List (List ℕ)) → List (List ℕ)
 overwritten block contents blocks =
     take block blocks ++ (contents ++ drop (block + length contents) blocks)
 
--- the volumes after a command that is done; what it writes are these blocks
+-- the volumes after a command that is done and wrote these blocks
 abbrev pub after_job : VolumeJob → (contents : List (List ℕ)) → List Volume → List Volume
 after_job volume.Ready contents volumes = []
 after_job (volume.Make name blocks) contents volumes =
@@ -87,7 +87,7 @@ pub record IsAmong (volumes : List Volume) (name : List ℕ) (v : Volume) : Type
   pub are : volumes ≡ before ++ v ∷ after
   pub named : v.name ≡ name
 
--- so many blocks from this one on are a volume's; of none nothing is asked
+-- The volume has `count` blocks from `block` on. For a count of 0 nothing is asked.
 abbrev pub HasRange : Volume → (block count : ℕ) → Type 0
 HasRange v block count = 0 < count → block + count ≤ length v.blocks
 
@@ -101,12 +101,12 @@ Fits (volume.Write name block count) contents volumes =
     (v : Volume) × IsAmong volumes name v × HasRange v block (length contents)
 Fits _ contents volumes = ⊤
 
--- the volumes with which it begins; `vinit` begins with none
+-- The command begins with these volumes. `vinit` begins on an array whose block 0 is not a table.
 abbrev pub BeginsWith : VolumeJob → (count : ℕ) → Blocks → List Volume → Type 0
 BeginsWith volume.Ready count held volumes = HasNone count held
 BeginsWith job count held volumes = HasVolumes count held volumes
 
--- The command was done with these blocks, on what an array of so many held.
+-- The command was done with these blocks, on what an array of `count` blocks held.
 pub record HasDone (job : VolumeJob) (contents : List (List ℕ)) (count : ℕ) (held now : Blocks)
     : Type 0 where
   pub volumes : List Volume
@@ -119,19 +119,19 @@ pub record KeepsVolumes (count : ℕ) (held now : Blocks) : Type 0 where
   pub some : (volumes : List Volume) → HasVolumes count held volumes → HasVolumes count now volumes
   pub none : HasNone count held → HasNone count now
 
--- blocks that were taken, and what came after them
+-- The bytes that were taken begin with these whole blocks.
 pub record AreFront (contents : List (List ℕ)) (taken : List ℕ) : Type 0 where
   pub rest : List ℕ
   pub are : taken ≡ concat contents ++ rest
   pub whole : All (λ bytes. length bytes ≡ SECTOR) contents
 
--- how many blocks a command is to write from what it takes
+-- the number of blocks that a command is to write from its input
 abbrev pub most_written : VolumeJob → ℕ
 most_written (volume.Write name block count) = count
 most_written job = 0
 
--- What an array of so many blocks may hold on the way: the volumes that it held, or those after the command. Of a write only the
--- first blocks may be written, as they came.
+-- During a command an array of `count` blocks holds the volumes that it held, or those after the command. A write may
+-- have written only the first blocks of its input.
 abbrev pub MayHold : VolumeJob → (taken : List ℕ) → (count : ℕ) → (held now : Blocks) → Type 0
 MayHold job taken count held now = KeepsVolumes count held now
     ⊎ ((contents : List (List ℕ)) × AreFront contents taken
@@ -139,28 +139,28 @@ MayHold job taken count held now = KeepsVolumes count held now
 
 -- CALLS
 
--- what was in doubt as the array was opened was made, or it wasn't
+-- The change that was in doubt as the array was opened was made, or it was not.
 abbrev pub IsSettled : State → Blocks → Type 0
 IsSettled s held = (held ≡ s.content.blocks) ⊎ (held ≡ (new_content s).blocks)
 
--- The array was opened, and whatever becomes of a change that is in doubt, it holds what it may on the way.
+-- The array was opened. It holds what it may during the command, whether the change in doubt now is made or not.
 pub record WasOpened (job : VolumeJob) (taken : List ℕ) (s now : State) : Type 0 where
   pub held : Blocks
   pub settled : IsSettled s held
   pub holds : MayHold job taken (block_count s.geometry) held now.content.blocks
   pub may_hold : MayHold job taken (block_count s.geometry) held (new_content now).blocks
 
--- What a command comes to, by this moment: nothing yet, or that.
+-- By this moment the array is as it was, or was opened.
 abbrev pub Goes : VolumeJob → (taken : List ℕ) → (s now : State) → Type 0
 Goes job taken s now = IsAsItWas s now ⊎ WasOpened job taken s now
 
--- the bytes of so many blocks of the volume
+-- A `vread` puts out the bytes of its `count` blocks of the volume.
 abbrev pub PutsOut : VolumeJob → List Volume → (put : List ℕ) → Type 0
 PutsOut (volume.Read name block count) volumes put = (v : Volume) × IsAmong volumes name v
     × (put ≡ concat (take count (drop block v.blocks)))
 PutsOut job volumes put = ⊤
 
--- And what it comes to where it was done: with all that was taken, and nothing is in doubt.
+-- The command was done with all blocks that it was to take, and nothing is in doubt.
 pub record IsFinished (job : VolumeJob) (taken put : List ℕ) (s now : State) : Type 0 where
   pub held : Blocks
   pub settled : IsSettled s held
@@ -173,8 +173,8 @@ pub record IsFinished (job : VolumeJob) (taken put : List ℕ) (s now : State) :
 
 -- THE LAWS
 
--- Of a trace that follows the program of a command, from the opening of an array that is in a state, as a run of the machine: at each
--- moment of it, and where a crash cuts the step that comes next.
+-- A trace follows the program of a command as a run of the machine, from the opening of an array in a state. These laws
+-- hold at each moment of it, and after a crash that cuts the next step.
 abbrev pub VolumesStay : Type 0
 VolumesStay = (returning : Returning) (before : List Happening) (job : VolumeJob)
     (done : List TraceItem) (rest : Program) (s : State) (new : Now) (h : List Happening) → IsCommand job
@@ -190,7 +190,7 @@ CutsAreSafe = (returning : Returning) (before : List Happening) (job : VolumeJob
     → Runs returning before done (now s h None) new → IsNext rest step → new.stopped ≡ None
     → CutWithin step begun new.state left → Goes job (taken_in done) s left
 
--- And where all of it was done.
+-- If the whole trace ends with Done, the command is finished.
 abbrev pub DoneIsFinished : Type 0
 DoneIsFinished = (returning : Returning) (before : List Happening) (job : VolumeJob)
     (done : List TraceItem) (s : State) (new : Now) (h : List Happening) → IsCommand job
@@ -198,7 +198,7 @@ DoneIsFinished = (returning : Returning) (before : List Happening) (job : Volume
     → Runs returning before done (now s h None) new
     → IsFinished job (taken_in done) (put_in done) s new.state
 
--- Where two reads of a volume are done, of whatever arrays, it gives the same if it is the same in both.
+-- Two reads of a volume that are done, of any two arrays, give the same bytes if the volume is the same in both.
 abbrev pub VolumesReadAlike : Type 0
 VolumesReadAlike = (name : List ℕ) (block count : ℕ) (taken put taken' put' : List ℕ)
     (s new s' new' : State) (v : Volume)

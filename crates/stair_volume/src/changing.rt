@@ -1,4 +1,4 @@
-// The commands that change which volumes there are.
+// The commands that make the table, add a volume and remove one.
 ghost use Rattle.std.specs.Prelude.{◌≡◌, ◌+◌, ◌*◌, ◌<◌, ◌≤◌, ◌++◌, ℕ, None, length, replicate};
 ghost use Rattle.stair_array.specs.Promise.{Opened};
 ghost use Rattle.stair_model.specs.Geometry.{block_count, data_cells};
@@ -25,7 +25,7 @@ use stair_conf::Name;
 use stair_rack::{Rack, Watcher};
 use stair_watch::Line;
 
-/// Makes block 0 a table without volumes. The line that tells so is answered.
+/// Makes block 0 a table without volumes. Returns the line that reports it.
 pub(crate) fn make_ready<C: StripeCode, R: Rack>(
     array: &mut ObservedArray<C>,
     rack: &mut R,
@@ -45,7 +45,7 @@ pub(crate) fn make_ready<C: StripeCode, R: Rack>(
     Ok(ready_line())
 }
 
-/// Adds a volume of so many blocks of zeros. The line that tells so is answered.
+/// Adds a volume of `blocks` blocks of zeros. Returns the line that reports it.
 pub(crate) fn make<C: StripeCode, R: Rack>(
     table: &Table,
     name: Name,
@@ -68,7 +68,7 @@ pub(crate) fn make<C: StripeCode, R: Rack>(
     ensures stay { AllStay hears watchers.new.items }
 {
     let grown = table.with(name, blocks)?;
-    // by whose rules its volumes are within the array
+    // brings the invariant of the table into scope: its volumes are within the array
     let _ = grown.entries();
     let extent = grown.find(name).ok_or(TableFault::NoVolume)?;
     clear(extent, zeros, array, rack, watchers)?;
@@ -76,7 +76,7 @@ pub(crate) fn make<C: StripeCode, R: Rack>(
     Ok(made_line(&name, extent))
 }
 
-/// Takes a volume out. The line that tells so is answered.
+/// Removes a volume. Returns the line that reports it.
 pub(crate) fn remove<C: StripeCode, R: Rack>(
     table: &Table,
     name: Name,
@@ -98,7 +98,7 @@ pub(crate) fn remove<C: StripeCode, R: Rack>(
     Ok(dropped_line(&name))
 }
 
-// Writes zeros to the blocks, those of a stripe as one step.
+// Writes zeros to the blocks. Each step writes the blocks of one stripe.
 fn clear<C: StripeCode, R: Rack>(
     extent: Extent,
     zeros: &[u8],
@@ -119,7 +119,7 @@ fn clear<C: StripeCode, R: Rack>(
     ensures stay { AllStay hears watchers.new.items }
 {
     let geometry = array.geometry();
-    // by whose limits the number of a block fits
+    // brings the limits of the geometry into scope: the number of a block fits
     let _ = geometry.blocks();
     let mut block = extent.first;
     let end = block + extent.blocks;
@@ -148,7 +148,7 @@ fn set_table<C: StripeCode, R: Rack>(
     ensures geometry { array.new.member.array.geometry ≡ array.old.member.array.geometry }
     ensures stay { AllStay hears watchers.new.items }
 {
-    // by whose rules a block alone is of one stripe
+    // brings the invariant of the geometry into scope: a single block is of one stripe
     let _ = array.geometry();
     array.write_blocks(rack, 0, &write_table(table), watchers)
 }
@@ -180,7 +180,7 @@ fn dropped_line(name: &Name) -> Line
     line
 }
 
-/// Appends a volume's name, its first block, and how many it has.
+/// Appends a volume's name, its first block and its number of blocks.
 pub(crate) fn push_volume(line: &mut Line, name: &Name, extent: Extent)
     requires { length line.old ≤ 100 }
     ensures { line.new ≡ line.old ++ volume_line name.now extent }

@@ -29,11 +29,13 @@ use stair_watch::Line;
 
 /// Does a command on the volumes of an open array.
 ///
-/// The table is read first. `Make` writes zeros to all blocks of the new volume, those of a stripe as one step, and then the table;
-/// its number of blocks is at least 1. `Read` puts out each block before it reads the next. `Write` is [`write_input`]; no other
-/// command takes anything. What was written or put out before a fault stands.
+/// It reads the table first. `Make` writes zeros to all blocks of the new volume, the blocks of a stripe as one step,
+/// and then the table; its number of blocks is at least 1. `Read` writes each block to the output before it reads the
+/// next. `Write` is [`write_input`]. No other command takes input. What was written before a fault stays written, on
+/// the array and to the output.
 ///
-/// `zeros` are those of the blocks of a stripe, and `piece` has room for as many bytes; no memory is taken.
+/// `zeros` has as many zero bytes as the blocks of a stripe, and `piece` has room for as many bytes. It allocates no
+/// memory.
 pub fn volume<C: StripeCode, R: Rack, S: Source, K: Sink>(
     array: &mut ObservedArray<C>,
     rack: &mut R,
@@ -74,7 +76,7 @@ pub fn volume<C: StripeCode, R: Rack, S: Source, K: Sink>(
     }
 }
 
-// Does a command where block 0 is this table.
+// Does a command on an array whose block 0 is this table.
 fn with_table<C: StripeCode, R: Rack, S: Source, K: Sink>(
     table: &Table,
     array: &mut ObservedArray<C>,
@@ -124,7 +126,7 @@ fn with_table<C: StripeCode, R: Rack, S: Source, K: Sink>(
     }
 }
 
-// Puts out a line for each volume.
+// Writes a line for each volume.
 fn list<K: Sink>(table: &Table, output: &mut K) -> Result<(), VolumeFault>
     ensures { (slots : ℕ) → PutsTo (sink_view K.Sink)
         (lists table.now.entries) (Over (status_of slots result)) output.old output.new }
@@ -137,14 +139,15 @@ fn list<K: Sink>(table: &Table, output: &mut K) -> Result<(), VolumeFault>
     Ok(())
 }
 
-// The block of the array that is this one of a volume, where the volume has so many from there on. Of none any is answered.
+// Returns the block of the array that is block `block` of a volume, if the volume has `count` blocks from there on. For
+// a count of 0 any block may be returned.
 fn first_block(table: &Table, name: Name, block: u64, count: u64) -> Result<u64, VolumeFault>
     ensures ok { IfOk result (IsFirstBlock table.now.entries name block count) }
     ensures refused { IfErr result (IsNoRange table.now.entries name block count) }
     ensures within { IfOk result (λ first. 0 < count → first + count ≤ table.now.blocks) }
     ensures fits { IfOk result (λ first. 0 < count → first + count < 2 ^ 37) }
 {
-    // by whose rules its volumes are within the array
+    // brings the invariant of the table into scope: its volumes are within the array
     let _ = table.entries();
     let extent = table.find(name).ok_or(TableFault::NoVolume)?;
     let limit = extent.blocks;
@@ -155,7 +158,7 @@ fn first_block(table: &Table, name: Name, block: u64, count: u64) -> Result<u64,
     Ok(extent.first.saturating_add(block))
 }
 
-// Puts out so many blocks from this one on. Each is put out before the next is read.
+// Writes `count` blocks from `first` on to the output. Each is written before the next is read.
 fn put_blocks<C: StripeCode, R: Rack, K: Sink>(
     first: u64,
     blocks: u64,

@@ -3,9 +3,9 @@ use stair_conf::Name;
 /// A range of blocks of an array.
 #[derive(Clone, Copy, Debug, PartialEq, Eq)]
 pub struct Extent {
-    /// The first of them.
+    /// The first block.
     pub first: u64,
-    /// How many there are.
+    /// The number of blocks.
     pub blocks: u64,
 }
 
@@ -20,7 +20,7 @@ impl Extent {
     ghost use Rattle.std.specs.Prelude.{◌≡◌, ◌^◌, ◌<◌, nat_lt};
     ghost use Rattle.stair_volume.specs.Table.{end_of, is_within as is_inside, meets as have_common};
 
-    /// The block after the last one.
+    /// Returns the block after the last one.
     pub(crate) fn end(self) -> u64
         requires { end_of self < 2 ^ 64 }
         ensures { result ≡ end_of self }
@@ -28,14 +28,14 @@ impl Extent {
         self.first + self.blocks
     }
 
-    /// Whether it lies within an array of so many blocks, after block 0.
+    /// Returns whether it lies within an array of `blocks` blocks, after block 0.
     pub(crate) fn is_within(self, blocks: u64) -> bool
         ensures { result ≡ is_inside blocks self }
     {
         self.first >= 1 && self.first <= blocks && self.blocks <= blocks - self.first
     }
 
-    /// Whether some block is in both.
+    /// Returns whether some block is in both.
     pub(crate) fn meets(self, other: Extent) -> bool
         ensures { result ≡ have_common self other }
     {

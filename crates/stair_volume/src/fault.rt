@@ -8,24 +8,24 @@ use crate::table_fault::TableFault;
 use stair_array::ArrayFault;
 use stair_command::{Fault, Status};
 
-/// Why a command on volumes wasn't done.
+/// Why a command on volumes was not done.
 #[derive(Clone, Copy, Debug, PartialEq, Eq)]
 pub enum VolumeFault {
-    /// Block 0 isn't a table of volumes.
+    /// Block 0 is not a table of volumes.
     NoTable,
     /// A table was to be made, and block 0 is one.
     TableThere,
-    /// The table has no such volume, or can't have one more.
+    /// The table has no such volume, or cannot have one more.
     Table(TableFault),
-    /// A step of the array was refused, or blocks were asked for that a volume hasn't: `OutOfRange`, whose limit is the number of
-    /// its blocks.
+    /// A step of the array was refused. It is `OutOfRange` if the blocks are not within the volume: its limit is the
+    /// volume's number of blocks.
     Array(ArrayFault),
-    /// Blocks of the input weren't all written, or the sink failed, and a part of the output may have been put out.
+    /// Not all blocks of the input were written; or the sink failed, and a part of the output may have been written.
     Transfer(Fault),
 }
 
 impl VolumeFault {
-    /// Its status, of an array of so many slots.
+    /// Returns its status, for an array of `slots` slots.
     pub fn status(&self, slots: u8) -> Status
         ensures { result ≡ status_of_volume slots self.now }
     {

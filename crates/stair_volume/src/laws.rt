@@ -9,8 +9,11 @@ ghost use Rattle.stair_volume.specs.Changes.{Adds, IsFree, IsLeastFree, Removes,
 ghost use Rattle.stair_volume.specs.declared.extent.Entry.{Entry};
 ghost use Rattle.stair_volume.specs.declared.extent.Extent.{Extent};
 
-/// A table reads back from the 512 bytes that it is written as, and from no others; room is the least there is; and a table
-/// that a volume is put into or taken out of is well formed, and has the others as they were. It does nothing.
+/// States the laws of the table of volumes. It does nothing.
+///
+/// - A table reads back from the 512 bytes that it is written as, and from no others.
+/// - A new volume gets the least first block at which there is room.
+/// - A table after a volume was added or removed is well formed, and has the other volumes as they were.
 pub fn table_laws()
     // what bytes say
     ensures read { (blocks : ℕ) (bytes : List ℕ) (table : Table) →
@@ -22,7 +25,7 @@ pub fn table_laws()
     ensures sector { (table : Table) → IsTable table → length (table_bytes table.entries) ≡ SECTOR }
     ensures bytes { (table : Table) → IsTable table →
         All (λ byte. byte < 256) (table_bytes table.entries) }
-    // numbers below 2^32, and so all of an array of at most 4,194,304 blocks, are written in four bytes each
+    // numbers below 2^32 are written in four bytes each: all of an array of at most 4,194,304 blocks are
     ensures small { (entry : Entry) → entry.extent.first < 2 ^ 32 → entry.extent.blocks < 2 ^ 32 →
         entry_bytes entry ≡ small_entry_bytes entry }
     ensures as_before { (table : Table) → IsTable table → table.blocks ≤ 4194304 →
@@ -39,7 +42,7 @@ pub fn table_laws()
     ensures no_room { (table : Table) (count : ℕ) →
         (room table count ≡ None) ↔ ((first : ℕ) → ¬ IsFree table (extent_of first count)) }
 
-    // a volume more, and one less
+    // a volume added, and one removed
     ensures adds { (old new : Table) (name : List ℕ) (count : ℕ) →
         with_volume old name count ≡ Ok new → Adds old new name count }
     ensures added { (old new : Table) (name : List ℕ) (count : ℕ) → IsTable old → IsName name →

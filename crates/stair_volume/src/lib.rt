@@ -1,6 +1,6 @@
-//! Named volumes of an array: the table of them, which is its block 0.
+//! Named volumes of an array, whose table is block 0 of the array.
 //!
-//! No call takes memory.
+//! No call allocates memory.
 #![tactic(auto)]
 
 mod changing;

@@ -9,7 +9,8 @@ use crate::writing::{HIGH_PART, write_table};
 use stair_base::SECTOR;
 use stair_conf::{NAME_LIMIT, Name};
 
-/// The table that these bytes are, of an array of so many blocks, or None where they aren't those of a well-formed one.
+/// Returns the table that these bytes are, for an array of `blocks` blocks, or `None` if they are not a well-formed
+/// table.
 ///
 /// [`write_table`] gives the table of the bytes, and [`Table`] says when a table is well formed.
 pub fn read_table(blocks: u64, bytes: &[u8; SECTOR]) -> Option<Table>
@@ -30,7 +31,7 @@ pub fn read_table(blocks: u64, bytes: &[u8; SECTOR]) -> Option<Table>
     }
 }
 
-// The first entries, where each has a name. The bytes between their fields aren't looked at.
+// Returns the first `len` entries, or None if one has no name. It ignores the bytes between their fields.
 fn read_entries(bytes: &[u8; SECTOR], len: usize) -> Option<[Entry; TABLE_LIMIT]>
     requires { len ≤ 15 }
     ensures { MatchOption result (HasNoName bytes.now len)
@@ -43,7 +44,7 @@ fn read_entries(bytes: &[u8; SECTOR], len: usize) -> Option<[Entry; TABLE_LIMIT]
     Some(entries)
 }
 
-// Entry k, where it has a name.
+// Returns entry k, or None if it has no name.
 fn read_entry(bytes: &[u8; SECTOR], k: usize) -> Option<Entry>
     requires { k < 15 }
     ensures { MatchOption result (¬ IsName (entry_in bytes.now k).name)

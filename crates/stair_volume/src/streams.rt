@@ -1,4 +1,4 @@
-// What is put out.
+// Writing to the output.
 ghost use Rattle.std.specs.Prelude.{ℕ};
 ghost use Rattle.stair_command.specs.Outside.{sink_view};
 ghost use Rattle.stair_command.specs.Program.{Program, Put};
@@ -9,7 +9,7 @@ use crate::fault::VolumeFault;
 use stair_command::put_all;
 use stair_rack::Sink;
 
-/// Puts the bytes out.
+/// Writes the bytes to the output.
 pub(crate) fn put<K: Sink>(output: &mut K, bytes: &[u8]) -> Result<(), VolumeFault>
     ensures { (slots : ℕ) (rest : Program) → PutsTo (sink_view K.Sink)
         (Put bytes.now rest) (after_done slots result rest) output.old output.new }

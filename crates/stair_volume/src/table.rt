@@ -18,7 +18,7 @@ use crate::table_fault::TableFault;
 use stair_conf::Name;
 use std::marker::Model;
 
-/// The most volumes that an array has.
+/// The most volumes that an array may have.
 pub const TABLE_LIMIT: usize = 15;
 
 /// The volumes of an array: at most 15, each with a name of its own and blocks of its own, after block 0.
@@ -26,7 +26,7 @@ pub const TABLE_LIMIT: usize = 15;
 pub struct Table {
     blocks: u64,
     len: usize,
-    // after the first len of them anything
+    // anything may follow the first `len` of them
     entries: [Entry; TABLE_LIMIT],
 }
 
@@ -42,7 +42,7 @@ impl Model for Table {
 }
 
 impl Table {
-    /// The table of an array of so many blocks that has no volumes.
+    /// Returns the table without volumes of an array of `blocks` blocks.
     pub fn empty(blocks: u64) -> Table
         requires { blocks < 2 ^ 37 }
         ensures { result ≡ table_with blocks [] }
@@ -54,7 +54,7 @@ impl Table {
         }
     }
 
-    // The table of the first of these entries, exactly where it is well formed.
+    // Returns the table of the first `len` of these entries, or None if it is not well formed.
     pub(crate) fn new(blocks: u64, entries: [Entry; TABLE_LIMIT], len: usize) -> Option<Table>
         requires size { blocks < 2 ^ 37 }
         requires few { len ≤ 15 }
@@ -71,7 +71,7 @@ impl Table {
         })
     }
 
-    /// The volumes, in the order of the table.
+    /// Returns the volumes, in the order of the table.
     pub fn entries(&self) -> &[Entry]
         ensures value { result.now ≡ self.now.entries }
         ensures rules { IsTable self.now }
@@ -79,22 +79,23 @@ impl Table {
         &self.entries[..self.len]
     }
 
-    /// The blocks of the volume of this name, or None where none has it.
+    /// Returns the blocks of the volume with this name, or `None` if no volume has it.
     pub fn find(&self, name: Name) -> Option<Extent>
         ensures { result ≡ find_in self.now.entries name }
     {
         extent_named(self.entries(), &name)
     }
 
-    /// The table with a volume more at its end, of so many blocks: from the least first block from which so many are free.
+    /// Returns the table with one volume of `blocks` blocks added at its end. It begins at the least block from which
+    /// so many are free.
     ///
-    /// `NameTaken` is answered exactly where a volume has the name; then `TableFull` exactly where there are 15; then
-    /// `NoRoom`, with the number of blocks, exactly where so many are free nowhere.
+    /// The errors, in the order in which they are checked: `NameTaken` if a volume has the name; `TableFull` if there
+    /// are 15; `NoRoom`, with the number of blocks, if no range of so many is free. None comes otherwise.
     pub fn with(&self, name: Name, blocks: u64) -> Result<Table, TableFault>
         requires { 1 ≤ blocks }
         ensures { result ≡ with_volume self.now name blocks }
     {
-        // the name keeps its rules
+        // brings the invariant of the name into scope
         let _name = name.bytes();
         if self.find(name).is_some() {
             return Err(TableFault::NameTaken);
@@ -108,8 +109,8 @@ impl Table {
         }
     }
 
-    /// The table without the volume of this name, with the others in their order. `NoVolume` is answered exactly where
-    /// none has it.
+    /// Returns the table without the volume of this name, with the others in their order. The error is `NoVolume`,
+    /// exactly if no volume has the name.
     pub fn without(&self, name: Name) -> Result<Table, TableFault>
         ensures { result ≡ without_volume self.now name }
     {
@@ -131,7 +132,7 @@ impl Table {
         })
     }
 
-    // The first so many blocks that are free.
+    // Returns the first free range of `blocks` blocks.
     fn room(&self, blocks: u64) -> Option<Extent>
         ensures { result ≡ option_map (λ first. extent_of first blocks) (least_room self.now blocks) }
     {
@@ -146,7 +147,7 @@ impl Table {
         extent.is_within(self.blocks).then_some(extent)
     }
 
-    // The table with an entry more at its end.
+    // Returns the table with one more entry at its end.
     fn with_entry(&self, entry: Entry) -> Table
         requires few { length self.now.entries < 15 }
         requires rules { IsTable (with_entry self.now entry) }
@@ -163,7 +164,7 @@ impl Table {
     }
 }
 
-// Entries that are of no table.
+// Returns entries that fill unused places of a table.
 pub(crate) fn no_entries() -> [Entry; TABLE_LIMIT] {
     let Some(name) = Name::new(b"_") else {
         unreachable!();
@@ -175,7 +176,7 @@ pub(crate) fn no_entries() -> [Entry; TABLE_LIMIT] {
     [Entry { name, extent }; TABLE_LIMIT]
 }
 
-// The blocks of the volume of this name.
+// Returns the blocks of the volume of this name.
 fn extent_named(entries: &[Entry], name: &Name) -> Option<Extent>
     ensures { result ≡ find_in entries.now name.now }
 {
@@ -187,7 +188,7 @@ fn extent_named(entries: &[Entry], name: &Name) -> Option<Extent>
     None
 }
 
-// The block after some entry that has a block of it.
+// Returns the block after some entry that shares a block with it, if any.
 fn end_of_met(entries: &[Entry], extent: Extent) -> Option<u64>
     requires { All (λ entry. end_of entry.extent < 2 ^ 64) entries.now }
     ensures { MatchOption result (IsTrue (all_free entries.now extent))
@@ -201,30 +202,30 @@ fn end_of_met(entries: &[Entry], extent: Extent) -> Option<u64>
     None
 }
 
-// Whether no entry has a block of it.
+// Returns whether no entry has a block of it.
 fn is_free(entries: &[Entry], extent: Extent) -> bool
     ensures { result ≡ all_free entries.now extent }
 {
     entries.iter().all(|entry| !entry.extent.meets(extent))
 }
 
-// Whether no other entry has its name or a block of it.
+// Returns whether no other entry has its name or a block of it.
 fn is_apart(others: &[Entry], entry: &Entry) -> bool
     ensures { result ≡ stands_apart others.now entry.now }
 {
     extent_named(others, &entry.name).is_none() && is_free(others, entry.extent)
 }
 
-// Whether it is a volume of an array of so many blocks.
+// Returns whether it is a volume of an array of `blocks` blocks.
 fn is_volume(blocks: u64, entry: &Entry) -> bool
     ensures { result ≡ is_volume_of blocks entry.now }
 {
-    // the name keeps its rules
+    // brings the invariant of the name into scope
     let _name = entry.name.bytes();
     entry.extent.blocks >= 1 && entry.extent.is_within(blocks)
 }
 
-// Whether these are volumes of an array of so many blocks, each apart from those after it.
+// Returns whether these are volumes of an array of `blocks` blocks, each apart from those after it.
 fn are_volumes(blocks: u64, entries: &[Entry]) -> bool
     ensures { result ≡ all_volumes blocks entries.now }
 {

@@ -1,4 +1,4 @@
-/// Why a table isn't changed.
+/// Why a table is not changed.
 #[derive(Clone, Copy, Debug, PartialEq, Eq)]
 pub enum TableFault {
     /// No volume has this name.
@@ -7,6 +7,6 @@ pub enum TableFault {
     NameTaken,
     /// There are 15 volumes.
     TableFull,
-    /// There is no free range of so many blocks.
+    /// No range of this number of blocks is free.
     NoRoom(u64),
 }

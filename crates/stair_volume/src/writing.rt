@@ -8,17 +8,17 @@ use stair_base::SECTOR;
 /// The weight of the highest byte of a number of blocks.
 pub(crate) const HIGH_PART: u64 = 1 << 32;
 
-/// The bytes of a table, which are block 0 of its array. Numbers are big-endian.
+/// Returns the bytes of a table, which are block 0 of its array. Numbers are big-endian.
 ///
 /// | bytes | field |
 /// |---|---|
 /// | 0 to 7 | `STAIRVT1` |
-/// | 8 | how many entries there are, at most 15 |
+/// | 8 | the number of entries, at most 15 |
 /// | 32 + 32·k | of entry k: the length of its name |
 /// | 33 + 32·k to 48 + 32·k | its name, and zeros |
-/// | 51 + 32·k | how many blocks it has: the highest of five bytes |
+/// | 51 + 32·k | its number of blocks: the highest of five bytes |
 /// | 52 + 32·k to 59 + 32·k | its first block |
-/// | 60 + 32·k to 63 + 32·k | how many blocks it has: the other four bytes |
+/// | 60 + 32·k to 63 + 32·k | its number of blocks: the other four bytes |
 ///
 /// All else is zero.
 pub fn write_table(table: &Table) -> [u8; SECTOR]

@@ -1,4 +1,4 @@
--- The entries so far are those that stand there.
+-- The entries so far are those that the bytes hold.
 use Rattle.std.proofs.Common.{◌≡◌, length}
 use Rattle.stair_volume.specs.Page.{HasEntries}
 use Rattle.stair_volume.proofs.reading.read_entries.Given as goal

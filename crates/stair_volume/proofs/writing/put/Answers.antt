@@ -1,4 +1,4 @@
--- The field stands in its place, between what stood before and after.
+-- The field is in its place, between the bytes that were before and after it.
 use Rattle.std.proofs.Common.{◌≡◌, ℕ, ◌+◌, ◌-◌, List, ◌++◌, length, take, drop, ap, ◌∙◌, arith}
 use Rattle.std.proofs.lemmas.List.{drop-drop}
 use Rattle.stair_volume.specs.Page.{with_field}
