@@ -1,4 +1,4 @@
--- What follows from a call that means what its words say, whatever they are.
+-- What follows from a call that executes the program of the words, whatever they are.
 use Rattle.std.proofs.Common.{◌≡◌, ◌≢◌, ◌↔◌, ℕ, List, inl, inr, Option, None, Some, IfSome, IsTrue, Result, Ok, Err, false, true, refl, subst, ap}
 use Rattle.std.specs.Prelude.{IsErr}
 use Rattle.stair_model.specs.Geometry.{Geometry}

@@ -1,4 +1,4 @@
--- The whole blocks that came of the input of a `write` stand.
+-- The whole blocks that came from the input of a `write` are written.
 use Rattle.std.proofs.Common.{◌≡◌, ◌∙◌, ◌+◌, ◌-◌, ◌*◌, ◌/◌, ◌<◌, ◌≤◌, ℕ, zero, suc, List, [], ◌∷◌, ◌++◌, Option, None, Some, Ok, Err, Result, append_assoc, append-nil, zero-add, length-take, length, length-append, length-drop, take, drop, ap, ap₂, arith, refl, subst, sym}
 use Rattle.std.specs.Prelude.{Bool, false, nat_lt, true}
 use Rattle.std.specs.Simd.{first_chunks}
@@ -47,7 +47,7 @@ chunks_then (suc n) m xs ys long =
     (drop-append-le SECTOR xs ys (omega (arith, long)))
     ∙ ap (λ (rest : List (List ℕ)). take SECTOR xs ∷ rest) (chunks_then n m (drop SECTOR xs) ys (omega (arith, length-drop SECTOR xs, long)))
 
--- the whole blocks, however they are told
+-- the whole blocks, in both forms
 whole_chunks : (bytes : List ℕ) → blocks_of (whole_of bytes) ≡ first_chunks SECTOR (length bytes / SECTOR) (whole_of bytes)
 whole_chunks bytes =
     let count : length (whole_of bytes) / SECTOR ≡ length bytes / SECTOR = omega (arith, whole_long bytes) in

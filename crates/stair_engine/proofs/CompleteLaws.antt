@@ -167,7 +167,7 @@ stripe_done command g input held held' _ valid cause no_input no_output = absurd
 of_told : (told : Option (List ℕ)) (input : List ℕ) (P : List ℕ → Type 0) → told ≡ Some input → IfSome told P → P input
 of_told told input P is fact = subst (λ (t : Option (List ℕ)). IfSome t P) is fact
 
--- what was taken is the text that was told
+-- what was taken is the text of the source
 text_is : (told : Option (List ℕ)) (text input : List ℕ) (reply said : Result Geometry ConfigFault) → told ≡ Some input → IfSome told (λ all. text ≡ all)
     → TextReadsAs text reply → TextReadsAs input said → reply ≡ said
 text_is told text input reply said is same reads of =

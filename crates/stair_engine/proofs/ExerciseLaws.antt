@@ -12,8 +12,8 @@ use Rattle.stair_engine.specs.Exercise.{exercise_steps, exercised_line, exercise
 use Rattle.stair_engine.proofs.LineLaws.{IsOfLine}
 use Rattle.stair_engine.proofs.OpenLaws.{IsOfJob, left_so, refusal_own, unless_so}
 
--- What is so of the program, where it is so of each node of it by what comes after. Its steps admit no medium, and no draw is allowed
--- them.
+-- What holds for the program, if it holds for each node of it given that it holds after it. Its steps admit no medium,
+-- and are allowed no draw.
 record IsOfSteps (IsSo : Program → Type 0) : Type 0 where
   ends : (status : Status) → IsOfLine status → IsSo (Over status)
   tells : (bytes : List ℕ) → IsSo (Put bytes (Over Done))

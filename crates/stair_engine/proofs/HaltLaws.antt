@@ -1,4 +1,4 @@
--- Where a guarded script is halted: its trace beside the program of one that isn't guarded.
+-- When a guarded script is halted: its trace compared with the program of an unguarded one.
 use Rattle.std.proofs.Common.{◌≡◌, ◌∙◌, ◌⊎◌, inl, inr, ◌+◌, ◌≤◌, ◌++◌, ℕ, zero, suc, Bool, true, false, nat_lt, List, [], ◌∷◌, All, Option, None, Some, Ok, Err, ap, arith, length, refl, subst, sym}
 use Rattle.std.specs.Prelude.{◌||◌}
 use Rattle.std.proofs.lemmas.Bool.Decides.{nat_tests}
@@ -38,7 +38,7 @@ use Rattle.stair_engine.specs.Scripts.{MAX_SCRIPT_LINE, admitted_reply, all_line
 abbrev IsNoHalt : Status → Type 0
 IsNoHalt status = (number : ℕ) → status ≡ Halted number → ⊥
 
--- ---- programs beside one another
+-- ---- programs compared
 
 -- how many lines came once this was decided
 abbrev line_after : Question → ℕ → ℕ
@@ -74,7 +74,7 @@ abbrev halt_of : Bool → ℕ → List TraceItem → Option ℕ
 halt_of true number trace = Some number
 halt_of false number trace = halt_line number trace
 
--- What came of the trace of the one, and of the other.
+-- The ends of the traces of the one and of the other.
 abbrev Ended : (number : ℕ) (gone : Bool) → List TraceItem → Status → Program → Type 0
 Ended number gone trace status other =
     (IsNoHalt status × AlongTrace StepsProgram trace other (Over status) × (AllAreAnswered trace → halt_of gone number trace ≡ None))

@@ -249,7 +249,7 @@ module _ {R W S K : Type 0} (view : DeviceView R W) (source : SourceView S) (sin
             with_one view (both source sink) (TookLast []) (lines guarded g (suc room) number line) (last_line guarded g number line) (outside left held counter) (outside later held counter) _ _
             (omega arith, refl) gives refl refl refl
 
-    -- what stands after the last end is done
+    -- the text after the last end is done
     pub ends_last : (byte : Option ℕ) → ((some : ℕ) → byte ≡ Some some → ⊥) → TakesByte source byte left later → (bytes : List ℕ) → bytes ≡ line
         → (end : Devices R W) (put : K) (status : Status)
         → ((counter : ℕ) → ExecutesWith view (both no_source sink) (last_line guarded is.member.array.geometry number bytes) (Over status) (outside tt held counter)
@@ -408,7 +408,7 @@ module _ {R W S K : Type 0} (view : DeviceView R W) (source : SourceView S) (sin
                   (devices next (Opened after) rest)) (goes_so guarded number behind (some_left watchers rest) stays) (line_put puts counter));
             }
 
-  -- it is so of what is the same
+  -- this holds for equal parts
   pub same_did : (taken : ℕ) (left : S) {n m : ℕ} → n ≡ m → {line bytes : List ℕ} → line ≡ bytes → {now next : R} → now ≡ next
       → {is after : ArrayState} → is ≡ after → {watchers rest : List W} → watchers ≡ rest → {held put : K} → held ≡ put
       → DidSoFar taken m bytes next after rest left put → DidSoFar taken n line now is watchers left held

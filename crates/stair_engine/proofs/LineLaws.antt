@@ -18,7 +18,7 @@ use Rattle.stair_engine.specs.Scripts.{MAX_SCRIPT_LINE, all_lines, does_line, if
 use Rattle.stair_engine.proofs.MendLaws.{slot_so}
 use Rattle.stair_engine.proofs.OpenLaws.{IsOfJob, left_so, refusal_own, unless_so}
 
--- ---- what is so of each way that a line may go
+-- ---- what holds for each way that a line may end
 
 module _ (IsSo : Program → Type 0) where
   pub stripe_so : (g : Geometry) (stripe : ℕ) (program : Program) → IsSo program → IsSo (Over (OutOfRange stripe g.stripes)) → (has : Bool)
@@ -32,7 +32,7 @@ module _ (IsSo : Program → Type 0) where
   nothing_so end more of_end of_more (Promoted j) = of_more
   nothing_so end more of_end of_more (Dropped j) = of_more
 
-  -- steps of a rebuild, where it is so of one step by what comes after
+  -- steps of a rebuild, if this holds for one step given that it holds after it
   pub rebuilds_so : (slots : ℕ)
       → ((k : Progress → Bool → Program) → ((progress : Progress) (more : Bool) → IsSo (k progress more)) → IsSo (watch_step slots RebuildNext k))
       → (left done : ℕ) (gone : Bool) (k : ℕ → Bool → Program) → ((steps : ℕ) (gone : Bool) → IsSo (k steps gone)) → IsSo (some_rebuilds slots left done gone k)
@@ -53,8 +53,8 @@ IsOfLine status = IsOfJob status × (status ≢ OutOfMemory)
 abbrev pub opens_or_stamps : Step → ℕ
 opens_or_stamps step = opens step + stamps step
 
--- What is so of what a line does, where it is so of each node of its program by what comes after. No step of it opens an array or sets
--- a stamp.
+-- What holds for the program of a line, if it holds for each node of it given that it holds after it. No step of it
+-- opens an array or sets a stamp.
 pub record IsOfNodes (IsSo : Program → Type 0) : Type 0 where
   pub ends : (status : Status) → IsOfLine status → IsSo (Over status)
   pub asks : (bytes : List ℕ) (k : Option Line → Program) → ((reply : Option Line) → IsSo (k reply)) → IsSo (Ask (ScriptLine bytes) k)

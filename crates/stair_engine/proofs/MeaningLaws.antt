@@ -41,7 +41,7 @@ told_all None b bytes consumed none = tt
 told_all (Some x) None bytes consumed none = absurd consumed
 told_all (Some x) (Some y) bytes consumed none = sym (consumed ∙ ap (λ (l : List ℕ). bytes ++ l) (sym none) ∙ append-nil bytes)
 
--- at least these bytes were told
+-- the source has at least these bytes
 pub told_more : (a b : Option (List ℕ)) (bytes : List ℕ) → Consumes a b bytes → IfSome a (λ input. length bytes ≤ length input)
 told_more None b bytes consumed = tt
 told_more (Some x) None bytes consumed = absurd consumed
@@ -103,7 +103,7 @@ module _ {S K : Type 0} (view : Views S K) (command : StripeCommand) (g : Geomet
       none_put InputFault a.counter (limits, tt) (if_told (view.source.left a.source) _ (λ input. limits)) (bytes, few, consumed) tt
       (Keeps-refl (view.sink.held a.sink)) (λ is. cc, λ is. cc) refl
 
-  -- what is judged of the bytes is judged of what was told
+  -- what is judged of the bytes is judged of the input of the source
   judged_told : (input : List ℕ) → HasTakenAll view command g input a source → (status : Status) (output : List ℕ)
       → Judges command g input status output → IfSome (view.source.left a.source) (λ told. IsJudged command g told status output)
   judged_told input all status output is =
@@ -115,7 +115,7 @@ module _ {S K : Type 0} (view : Views S K) (command : StripeCommand) (g : Geomet
       → IfSome (view.source.left a.source) (λ told. Answers command g told (view.sink.held a.sink) (view.sink.held a.sink) status)
   answered status is = IfSome_then (view.source.left a.source) is (λ told fact. ([], fact, Appends-nil (view.sink.held a.sink)))
 
--- memory was short
+-- out of memory
 short_does : {S K : Type 0} (view : Views S K) (command : StripeCommand) (g : Geometry) (a : Outside S K) → Does view command g OutOfMemory a a
 short_does view command g a =
     none_put view command g a a.source OutOfMemory a.counter tt (if_told (view.source.left a.source) _ (λ input. tt))

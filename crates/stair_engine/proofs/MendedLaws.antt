@@ -78,7 +78,7 @@ rebuilt_so why.OtherSlot is = absurd (let never : Down ≡ Rebuilding = is in cc
 rebuilt_so why.MarkedDown is = absurd (let never : Down ≡ Rebuilding = is in cc)
 rebuilt_so why.OtherJoined is = absurd (let never : Down ≡ Rebuilding = is in cc)
 
--- a slot whose mark is live is so to the session, and so is one that is rebuilding
+-- the session knows as live a slot whose mark is live, and as rebuilding one that is rebuilding
 live_in : (a : ArrayState) → IsArray a → (j : ℕ) → j < a.member.array.geometry.n → mark_in a.member.array j ≡ Live → IsLiveIn a.member j
 live_in a array j below live = record { below = below; why = live_here (why_of a.member j) (sym (array.marks j below) ∙ live) }
 
@@ -366,7 +366,7 @@ module _ {R W : Type 0} (view : DeviceView R W) (honest : IsTrue view.rack.hones
       (opens_first (λ g. RebuildAll g.n 0 (λ steps. Put (rebuilt_line steps) (Over Done))) words job.Rebuild spells refl trace follows)
   job_done words _ spells mends trace works follows = absurd mends
 
--- the seats that an array was found with, told of a later moment and of another state of its geometry
+-- the seats that an array was found with, for a later moment and another state of its geometry
 found_later : (before h later : List Happening) (s t : State) (seats : Seats) → IsUpTo h later → s.geometry ≡ t.geometry → AreFound NoneReturns before h s seats
     → AreFound NoneReturns before later t seats
 found_later before h later s t seats upto same found = record {
@@ -427,7 +427,7 @@ module _ {R W : Type 0} (view : DeviceView R W) (honest : IsTrue view.rack.hones
         | inr stopped ↦ absurd (let never = subst IsSome none stopped in cc)
       ]
 
-  -- what is so of the session's array is so of the state
+  -- what holds for the session's array holds for the state
   run_sound : (asked : Job) (question : Question) (member : Membership) (g : Geometry) (events : List Event) (left : Bool) (rest : List TraceItem)
       → AlongTrace (WorksAll view) (opened_trace question member g events left rest) x y → IsRunTo (opened_trace question member g events left rest)
       → AreDone rest → EndsMended asked y.session (history_of view x) (history_of view y)

@@ -31,7 +31,7 @@ refusal_own slots (array.Gone slot) = (((λ is. cc, λ is. cc), λ is. cc), λ i
 refusal_own slots (array.SmallDevice slot has needs) = (((λ is. cc, λ is. cc), λ is. cc), λ is. cc)
 refusal_own slots (array.AlreadyArray slot) = (((λ is. cc, λ is. cc), λ is. cc), λ is. cc)
 
--- ---- what is so of each way that a program may go
+-- ---- what holds for each way that a program may end
 
 module _ (IsSo : Program → Type 0) where
   pub unless_so : {X : Type 0} (slots : ℕ) (k : X → Bool → Program) → ((given : X) (left : Bool) → IsSo (k given left))

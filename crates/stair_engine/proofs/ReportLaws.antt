@@ -22,7 +22,7 @@ use Rattle.stair_command.proofs.SureLaws.{CarriesOn, ends_done}
 use Rattle.stair_command.proofs.TextSureLaws.{AreShort, IsOfText, text_so}
 use Rattle.stair_engine.proofs.OpenLaws.{IsOfJob, left_so}
 
--- What is so of the program of a report, if it is so of each node by what comes after.
+-- What holds for the program of a report, if it holds for each node given that it holds after it.
 pub record IsOfReport (IsSo : Program → Type 0) : Type 0 where
   pub long : IsSo (Over (Input SCRIPT_LIMIT (SCRIPT_LIMIT + 1)))
   pub bad : (number : ℕ) → IsSo (Over (BadLine number))

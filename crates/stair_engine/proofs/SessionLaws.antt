@@ -42,7 +42,7 @@ unopened_by view member recover.EpochsSpent old new watchers left refused memory
 unopened_by view member (recover.JournalLost sector) old new watchers left refused memory =
     (JournalLost sector, refl, refused (JournalLost sector) refl)
 
--- what is so of an answer
+-- what holds for an answer
 pub if_ok_so : {T E : Type 0} (result : Result T E) (P Q : T → Type 0) → ((given : T) → P given → Q given) → IfOk result P → IfOk result Q
 if_ok_so (Ok given) P Q so is = so given is
 if_ok_so (Err fault) P Q so is = tt

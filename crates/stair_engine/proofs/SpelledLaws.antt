@@ -1,4 +1,4 @@
--- What comes of words before anything is done with devices.
+-- What the words lead to before anything is done with devices.
 use Rattle.std.proofs.Common.{ℕ, List, Option, refl}
 use Rattle.stair_conf.specs.declared.job.Job.{Job}
 use Rattle.stair_array.specs.Promise.{Begun}

@@ -1,5 +1,5 @@
--- What is sure of any session: that its array is opened, what is so of it then, and that its geometry is within its limits; and that
--- one block may be written at once.
+-- What holds for every session: its array is opened, what holds for it then, its geometry is within its limits, and one
+-- block may be written at once.
 use Rattle.std.proofs.Common.{◌≡◌, ◌∙◌, ◌+◌, ◌*◌, ◌%◌, ◌<◌, ◌≤◌, inl, inr, ℕ, zero, suc, List, [], ◌∷◌, Option, ap, arith, false, refl, subst, sym}
 use Rattle.stair_model.specs.Geometry.{Geometry, IsWithinLimits, block_count, data_cells}
 use Rattle.stair_rack.specs.Crash.{image_now}

@@ -13,7 +13,7 @@ use Rattle.stair_status.specs.declared.status.Status.TheVariants.{Usage, OutOfMe
 use Rattle.stair_command.proofs.AllEnds.{AllEnd, over_all}
 use Rattle.stair_engine.specs.Programs.{if_spelled, job_program, program_of}
 
--- what is so of a command's program is so of what is done for words that spell it
+-- what holds for a command's program holds for what is done for words that spell it
 pub spelled_so : (IsSo : Program → Type 0) (words : List (List ℕ)) (of : Job) → Spells words of → IsSo (job_program of) → (reply : Option Job)
     → IsReply (Words words) reply → IsSo (if_spelled reply)
 spelled_so IsSo words of spells so None not = absurd (not (of, spells))

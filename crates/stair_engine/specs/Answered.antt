@@ -13,15 +13,15 @@ use Rattle.stair_status.specs.declared.status.Status.{Status}
 use Rattle.stair_engine.specs.Complete.{IsThawed}
 use Rattle.stair_engine.specs.Programs.{program_of}
 
--- A step that reads is done, and so is one that writes where an array in this state isn't frozen. A reply tells of an error of the
--- devices only where a step of its request wasn't done.
+-- A step that reads is done. A step that writes is done if an array in this state is not frozen. A reply has an error
+-- of the devices only if a step of its request was not done.
 abbrev pub IsAnswered : State → TraceItem → Type 0
 IsAnswered s (Stepped (ReadBlock block) answer events left) = IsOk answer
 IsAnswered s (Stepped (WriteBlocks first contents) answer events left) =
     IsThawed s → IsOk answer
 IsAnswered s _ = ⊤
 
--- So it is along each trace that a call follows, where the array serves along it.
+-- This holds along each trace that a call follows, if the array serves along it.
 abbrev pub AnswersClient : {R W S K : Type 0} → Returning → DeviceView R W → Views S K
     → List (List ℕ) → Status → Outside S K → Outside S K → R → R → List W → List W → Type 0
 AnswersClient returning view streams words status old new first last watchers left =

@@ -1,4 +1,4 @@
--- What `read` and `write` do: an array is opened, and blocks of it are put out, or taken and written.
+-- What `read` and `write` do: they open an array, and put out blocks of it, or take and write them.
 use Rattle.std.specs.Prelude.{◌≡◌, ◌+◌, ◌<◌, ◌≤◌, ℕ, Bool, false, List, [], max, Some, Err}
 use Rattle.stair_model.specs.Geometry.{Geometry, block_count}
 use Rattle.stair_member.specs.Membership.{Membership}
@@ -16,7 +16,7 @@ use Rattle.stair_command.specs.Program.{Program, Over, opens_array, watches_arra
 use Rattle.stair_command.specs.Steps.{Takes}
 use Rattle.stair_command.specs.Transfers.{if_within, is_within, reads, writes}
 
--- Why an array that was found isn't opened: memory was short before any call was made, or its opening was refused.
+-- Why an array that was found is not opened: out of memory before any call was made, or its opening was refused.
 abbrev pub IsUnopened : {R W : Type 0} → DeviceView R W → Membership → Fault → R → R → List W → List W
     → Type 0
 IsUnopened view member fault.Memory old new watchers left = (new ≡ old) × (left ≡ watchers)
@@ -28,14 +28,14 @@ IsUnopened view member (fault.Opening refused) old new watchers left =
     (devices new Closed left)
 IsUnopened view member _ old new watchers left = ⊥
 
--- The session is begun: its array was looked for and is open, and so goes on every program that opens one.
+-- The session has begun: its array was looked for and is open. Every program that opens one continues from there.
 abbrev pub BeginsSession : {R W : Type 0} → DeviceView R W → ArrayState → R → R → List W → List W → Type 0
 BeginsSession view array old new watchers left = (k : Geometry → Bool → Program)
     → ExecutesOnDevices view (watches_array k)
     (k array.member.array.geometry (some_left watchers left)) (devices old Begun watchers)
     (devices new (Opened array) left)
 
--- or it isn't, by which every such program ends
+-- The session has not begun. Every program that opens an array ends with this fault.
 abbrev pub EndsSession : {R W : Type 0} → DeviceView R W → Fault → R → R → List W → List W → Type 0
 EndsSession view why old new watchers left = (k : Geometry → Bool → Program)
     → (session : Phase) × ExecutesOnDevices view (watches_array k) (Over (status_of_fault why))
@@ -43,7 +43,7 @@ EndsSession view why old new watchers left = (k : Geometry → Bool → Program)
 
 -- RANGES
 
--- an array of this geometry has so many blocks from this one on; of none nothing is asked
+-- An array of this geometry has this number of blocks from that block on. For a count of 0 nothing is asked.
 abbrev pub IsInRange : Geometry → ℕ → ℕ → Type 0
 IsInRange g first count = 0 < count → first + count ≤ block_count g
 
@@ -57,7 +57,7 @@ if_in_range g first within program = if_within (block_count g) first within prog
 abbrev pub within_range : Geometry → (first count : ℕ) → Program → Program
 within_range g first count program = if_in_range g first (is_in_range g first count) program
 
--- and the call ends so where it isn't
+-- If it is not in range, the call ends with this fault.
 abbrev pub IsPast : Geometry → ℕ → ℕ → Fault → Type 0
 IsPast g first count refused = (is_in_range g first count ≡ false)
     × (refused ≡ fault.OutOfRange (max first (block_count g)) (block_count g))

@@ -11,9 +11,9 @@ use Rattle.stair_command.specs.Program.{Over}
 use Rattle.stair_status.specs.declared.status.Status.{Status}
 use Rattle.stair_engine.specs.Programs.{program_of}
 
--- Along each trace that the call follows, of an array that stands over it: where no superblock of the array bore a draw above `most`
--- as the call began, none bears one above `most` + 100 + 5 q at any moment of the call, nor after a crash then. The trace has q
--- replacements of a slot, done or refused.
+-- This holds along each trace that the call follows, if the rack represents the array over it. If no superblock of the
+-- array had a draw above `most` as the call began, none has one above `most` + 100 + 5 q at any moment of the call, nor
+-- after a crash then. Here q is the number of replacements of a slot in the trace, done or refused.
 abbrev pub BoundsDraws : {R W S K : Type 0} → DeviceView R W → Views S K → List (List ℕ) → Status
     → Outside S K → Outside S K → R → R → List W → List W → Type 0
 BoundsDraws view streams words status old new first last watchers left =

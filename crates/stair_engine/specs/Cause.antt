@@ -1,5 +1,5 @@
--- By status, of the three commands on one stripe alone: why it comes, and what stands after it. These
--- tables are the laws' words, and no clause of a command cites them, so no other command has rows here.
+-- For each status of the three commands on one stripe: why it comes, and what holds after it. Only the laws
+-- use these tables; no clause of a command cites them, and no other command has rows here.
 use Rattle.std.specs.Prelude.{◌≡◌, ℕ, ◌+◌, ◌<◌, ◌≤◌, Bool, true, false, MatchBool, List, length, take, Option, ⊤}
 use Rattle.std.specs.Io.KnownBytes.{Appends, Consumes, Keeps}
 use Rattle.stair_model.specs.Geometry.{Geometry, IsWithinLimits, IsFirstBrokenLimit}
@@ -22,8 +22,8 @@ abbrev pub Answers : StripeCommand → Geometry → List ℕ → Option (List �
 Answers command g input old new status = (output : List ℕ) × IsAnswer command g input status output
     × Appends old new output
 
--- Why a status comes, beside faults and lack of memory: it is the one for this input, or a fault came in its place. A fault
--- of the source comes only within the limits, and one of the sink only where the output was being put out.
+-- Why a status comes, other than OutOfMemory: it is the one for this input, or a fault came in its place. A fault of
+-- the source comes only within the limits, and a fault of the sink only while the output was being written.
 abbrev pub HasCause : StripeCommand → Geometry → List ℕ → Option (List ℕ) → Option (List ℕ) → Status →
     Type 0
 HasCause command g input old new InputFault = IsWithinLimits g
@@ -40,7 +40,7 @@ HasCause command g input old new (Lost stripe counts n) =
     Answers command g input old new (Lost stripe counts n)
 HasCause command g input old new _ = ⊥
 
--- an equation is told by `check` alone, and erased cells and held ones by `restore` alone
+-- Only `check` reports an equation, and only `restore` reports erased cells and held ones.
 abbrev pub IsToldBy : Status → StripeCommand → Type 0
 IsToldBy (NotCodeword b) Check = ⊤
 IsToldBy (NotCodeword b) (Encode method) = ⊥
@@ -53,7 +53,7 @@ IsToldBy (Lost stripe counts n) (Encode method) = ⊥
 IsToldBy (Lost stripe counts n) Restore = ⊤
 IsToldBy _ command = ⊤
 
--- the limits are tested before the input, whatever the source tells
+-- The limits are tested before the input, whatever the source has.
 abbrev pub LimitsComeFirst : StripeCommand → Geometry → Status → Type 0
 LimitsComeFirst command g (Limit k) = IsFirstBrokenLimit g k
 LimitsComeFirst command g OutOfMemory = ⊤
@@ -75,11 +75,11 @@ IfRefusedAtOnce (Limit k) fact = fact
 IfRefusedAtOnce OutOfMemory fact = fact
 IfRefusedAtOnce _ fact = ⊤
 
--- told bytes lose the first `count`
+-- the bytes of the source lose the first `count`
 abbrev pub TakesCount : Option (List ℕ) → Option (List ℕ) → ℕ → Type 0
 TakesCount old new count = (taken : List ℕ) × (length taken ≡ count) × Consumes old new taken
 
--- told bytes lose at most `most`, from the front
+-- the bytes of the source lose at most `most`, from the front
 abbrev pub TakesAtMost : Option (List ℕ) → Option (List ℕ) → ℕ → Type 0
 TakesAtMost old new most = (taken : List ℕ) × (length taken ≤ most) × Consumes old new taken
 
@@ -92,9 +92,9 @@ TakesInput command g old new (Input needed took) = TakesCount old new took
 TakesInput command g old new InputFault = TakesAtMost old new (bytes_needed command g)
 TakesInput command g old new _ = TakesCount old new (bytes_needed command g)
 
--- Of every source, also one that doesn't tell its bytes, by whether it had ended before and has ended now: an input is judged
--- only after the end was seen after it, and one of another length ended before the bytes that are needed, or did not end
--- after them.
+-- This holds for every source, also one that does not report its bytes, by whether it had ended before and has ended
+-- now. An input is judged only after its end was seen. An input of another length ended before the bytes that are
+-- needed, or did not end after them.
 abbrev pub LooksForEnd : StripeCommand → Geometry → Bool → Bool → Status → Type 0
 LooksForEnd command g old new Usage = ⊤
 LooksForEnd command g old new (Limit k) = ⊤
@@ -114,7 +114,7 @@ IsOutput Check g output = output ≡ codeword_line
 IsOutput (Encode method) g output = IsCodewordBytes g output
 IsOutput Restore g output = IsCodewordBytes g output
 
--- the output is put out where all was done, a part of it where the sink failed, and nothing else ever
+-- The output is written if all was done, a part of it if the sink failed, and nothing else ever.
 abbrev pub PutsOut : StripeCommand → Geometry → Option (List ℕ) → Option (List ℕ) → Status → Type 0
 PutsOut command g old new Done = (output : List ℕ) × IsOutput command g output
     × Appends old new output

@@ -1,4 +1,4 @@
--- What becomes of the volumes of an array over a call.
+-- What a call makes of the volumes of an array.
 use Rattle.std.specs.Prelude.{◌≡◌, ℕ, List, drop, take}
 use Rattle.std.specs.List.{concat}
 use Rattle.stair_model.specs.Geometry.{IsWithinLimits, block_count}
@@ -19,9 +19,9 @@ use Rattle.stair_status.specs.declared.status.Status.TheVariants.{Done}
 use Rattle.stair_volume.specs.Volumes.{Goes, HasVolumes, IsAmong, IsFinished, IsSettled, Volume}
 use Rattle.stair_engine.specs.Programs.{program_of}
 
--- Along each trace that the call follows, from a state of an array: in the end of a run of the machine the volumes are those that the
--- command may have made of them, and where it was done those that it is to make; and where a crash cuts the run, each image that it
--- leaves represents a state in which they are so.
+-- This holds along each trace that the call follows, from a state of an array. At the end of a run of the machine the
+-- volumes are those that the command may leave; if it was done, they are those that it is to make. If a crash cuts the
+-- run, each image that it leaves represents a state with volumes that the command may leave.
 abbrev pub ChangesVolumes : {R W S K : Type 0} → VolumeJob → DeviceView R W → Views S K
     → List (List ℕ) → Status → Outside S K → Outside S K → R → R → List W → List W → Type 0
 ChangesVolumes job view streams words status old new first last watchers left =
@@ -37,14 +37,15 @@ ChangesVolumes job view streams words status old new first last watchers left =
     → EachImage (λ image. (state : State) × StandsForAlone returning state image
     × Goes job (taken_in safe.done) s state) c)
 
--- An array of so many blocks, which hold this, has this volume by that name.
+-- An array of `count` blocks with this content has volume `v` under this name.
 pub record HoldsVolume (count : ℕ) (held : Blocks) (name : List ℕ) (v : Volume) : Type 0 where
   pub volumes : List Volume
   pub has : HasVolumes count held volumes
   pub among : IsAmong volumes name v
 
--- A read of a volume that is done puts out those bytes of the volume. They depend on the volume alone, so two arrays that hold the same
--- volume are read alike. The volume is the one that the array holds as it is opened, with what was in doubt made or not.
+-- A read of a volume that is done puts out these bytes of the volume. They depend only on the volume: two arrays that
+-- hold the same volume are read alike. The volume is the one that the array holds as it is opened, with the change in
+-- doubt made or not.
 abbrev pub ReadsAlike : {R W S K : Type 0} → (name : List ℕ) → (block count : ℕ) → DeviceView R W
     → Views S K → List (List ℕ) → Status → Outside S K → Outside S K → R → R → List W → List W → Type 0
 ReadsAlike name block count view streams words status old new first last watchers left =

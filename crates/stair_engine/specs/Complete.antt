@@ -56,18 +56,18 @@ pub record IsValidInput (command : StripeCommand) (g : Geometry) (input : List �
   pub whole : length input ≡ bytes_needed command g
   pub fits : Fits command g input
 
--- the source tells an input, and it is so
+-- The source reports its input, and this holds for it.
 abbrev pub TellsInput : Option (List ℕ) → (List ℕ → Type 0) → Type 0
 TellsInput told IsSo = (input : List ℕ) × (told ≡ Some input) × IsSo input
 
--- an array in this state isn't frozen, whatever becomes of a change that is in doubt
+-- An array in this state is not frozen, whether a change in doubt is made or not.
 abbrev pub IsThawed : State → Type 0
 IsThawed s =
     (s.content.frozen ≡ false) × ((changed_if s.in_doubt s.content).frozen ≡ false)
 
 -- SCRIPTS
 
--- an array in this state has the block, the stripe or the slot of a line, and isn't frozen where a block is written
+-- An array in this state has the block, the stripe or the slot of a line, and is not frozen if the line writes a block.
 abbrev pub IsLineOf : State → Line → Type 0
 IsLineOf s Blank = ⊤
 IsLineOf s (line.Read block) = block < block_count s.geometry
@@ -92,16 +92,17 @@ abbrev pub IsEventText : List ℕ → Type 0
 IsEventText input = (events : List Event) × AreLines SpellsEvent events input
     × (length input ≤ SCRIPT_LIMIT)
 
--- The job is done, if there was memory. A guarded script may be halted, and a command on volumes ends as these and its input allow.
+-- The job is done, if there was memory. A guarded script may be halted, and a command on volumes ends as the volumes
+-- and its input allow.
 abbrev pub IsFinished : Job → Status → Type 0
 IsFinished (job.Guard events fences) status =
     IsDone status ⊎ ((number : ℕ) × (status ≡ Halted number))
 IsFinished (job.Volume volume) status = MayEnd volume status ⊎ (status ≡ OutOfMemory)
 IsFinished job status = IsDone status
 
--- What is told and the rack are such that the job can be done, where an array in some state serves the call. A replacement can be
--- where the slot takes no part before anything is written, and has a device that can be admitted. Of a script in which a device is
--- put in, a law tells.
+-- The input and the rack are such that the job can be done, if an array in some state serves the call. A replacement
+-- can be done if the slot takes no part before anything is written, and has a device that can be admitted. Scripts that
+-- put in a device have a law of their own, `ScriptIsDone`.
 abbrev pub CanBeDone : {R : Type 0} → Returning → (State → Type 0) → RackView R → Job
     → Option (List ℕ) → R → R → Type 0
 CanBeDone returning Serves rack (job.OneStripe command n m r e) told first last =
@@ -132,14 +133,14 @@ CanBeDone returning Serves rack (job.Plan n m r e) told first last =
     IsWithinLimits (one_stripe n m r e)
 CanBeDone returning Serves rack job told first last = (s : State) × Serves s
 
--- It is finished where it can be done and neither source nor sink failed. No medium comes back.
+-- The job is finished if it can be done and neither source nor sink failed. No medium is reinserted.
 abbrev pub IsComplete : {R S K : Type 0} → RackView R → Views S K → Job → Status → Outside S K →
     Outside S K → R → R → Type 0
 IsComplete rack view job status old new first last = HasNoFault view old new
     → CanBeDone NoneReturns (λ s. ServesThroughout rack s first last) rack job
     (view.source.left old.source) first last → IsFinished job status
 
--- So it is along the trace of its call, whether media come back or not.
+-- The same along the trace of its call, whether media are reinserted or not.
 abbrev pub IsCompleteAlong : {R W S K : Type 0} → Returning → (view : DeviceView R W)
     → Views S K → Job → Status → Outside S K → Outside S K → (trace : List TraceItem)
     → (first last : Devices R W) → AlongTrace (WorksAll view) trace first last → Type 0
@@ -148,7 +149,7 @@ IsCompleteAlong returning view streams job status old new trace first last works
     → CanBeDone returning (λ s. ServesAlong returning view s trace first last works) view.rack job
     (streams.source.left old.source) first.rack last.rack → IsFinished job status
 
--- It is so along each trace that this call follows.
+-- This holds along each trace that this call follows.
 abbrev pub IsCompleteWithReinsertion : {R W S K : Type 0} → Returning → DeviceView R W → Views S K
     → List (List ℕ) → Job → Status → Outside S K → Outside S K → R → R → List W → List W → Type 0
 IsCompleteWithReinsertion returning view streams words job status old new first last watchers left =

@@ -1,4 +1,4 @@
--- How many cells a scrub writes anew, where the outside does nothing meanwhile.
+-- How many cells a scrub rewrites, if the outside does nothing meanwhile.
 use Rattle.std.specs.Prelude.{◌≡◌, ◌↔◌, ◌+◌, ◌<◌, ℕ, false, IsSome, List, [], ◌∷◌, length, ⊤}
 use Rattle.std.specs.Io.KnownBytes.{Appends}
 use Rattle.stair_model.specs.CellSet.{CellSet, HasCell, IsCellSet, cell_count}
@@ -42,7 +42,7 @@ abbrev pub cells_in : List CellSet → ℕ
 cells_in [] = 0
 cells_in (cells ∷ more) = cell_count cells + cells_in more
 
--- So many stripe cells of live slots can't be read at h.
+-- Exactly `count` stripe cells of live slots cannot be read at h.
 pub record IsExact (g : Geometry) (h : List Happening) (count : ℕ) : Type 0 where
   pub bad : List CellSet
   pub stripes : length bad ≡ g.stripes
@@ -54,8 +54,8 @@ pub record IsQuiet (first last : List Happening) : Type 0 where
   pub undamaged : NothingDamaged first last
   pub unpulled : (j : ℕ) → IsSome (slot_state first j).size → ¬ WasPulled first last j
 
--- What is asked of the rack: it was an array in a state, within tolerance to the end, no medium came back, the outside left the media
--- that were there alone, and no redo was to be done again.
+-- The rack was an array in a state and stayed within tolerance to the end. No medium was reinserted, the outside left
+-- the media that were there alone, and no redo was to be done again.
 pub record IsUndisturbed (s : State) (first last : List Happening) : Type 0 where
   pub history : IsHistory first
   pub represents : Represents s first
@@ -64,14 +64,14 @@ pub record IsUndisturbed (s : State) (first last : List Happening) : Type 0 wher
   pub quiet : IsQuiet first last
   pub gates : NoGateIsOpen s.geometry first
 
--- the line is all that was put out, and what was done last
+-- The line is all that was put out, and the last item of the trace.
 abbrev pub PutsAlone : List ℕ → List TraceItem → Type 0
 PutsAlone line [] = ⊥
 PutsAlone line (HasPut bytes ∷ trace) = (bytes ≡ line) × (trace ≡ [])
 PutsAlone line (PutFailed part ∷ trace) = ⊥
 PutsAlone line (item ∷ trace) = PutsAlone line trace
 
--- A `scrub` that is done tells of such a rack how many cells of live slots couldn't be read at first.
+-- On such a rack, a `scrub` that is done reports how many cells of live slots could not be read at first.
 abbrev pub TellsCount : {K : Type 0} → SinkView K → Status → K → K → List Happening → List Happening
     → Type 0
 TellsCount sink status old new first last = status ≡ Done → (s : State) → IsUndisturbed s first last

@@ -1,5 +1,5 @@
--- What a call of the three commands on one stripe keeps, by the status that it came to. These records
--- are the laws' words, and no clause of a command cites them.
+-- What a call of the three commands on one stripe keeps, by its status. Only the laws use these records; no clause of a
+-- command cites them.
 use Rattle.std.specs.Prelude.{IfSome}
 use Rattle.stair_model.specs.Geometry.{Geometry}
 use Rattle.stair_status.specs.declared.status.Status.{Status}

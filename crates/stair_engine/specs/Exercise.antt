@@ -1,4 +1,4 @@
--- What `exercise` does: an array is opened, and steps are taken that a number gives.
+-- What `exercise` does: it opens an array, and takes steps that a number gives.
 use Rattle.std.specs.Prelude.{◌==◌, ◌+◌, ◌*◌, ◌/◌, ◌%◌, ◌^◌, ◌||◌, ℕ, zero, suc, Bool, true, false, nat_lt, List, [], ◌∷◌, ◌++◌, codes, replicate, slice_index}
 use Rattle.std.specs.Fmt.{decimal}
 use Rattle.stair_model.specs.Geometry.{Geometry, block_count}

@@ -1,4 +1,4 @@
--- Where a guarded script is halted.
+-- When a guarded script is halted.
 use Rattle.std.specs.Prelude.{◌≡◌, ◌⊎◌, ◌+◌, ◌↔◌, ℕ, false, true, List, [], ◌∷◌, ◌++◌, All, Option, None, Some, Ok, Err, ⊤}
 use Rattle.stair_model.specs.Geometry.{Geometry}
 use Rattle.stair_conf.specs.declared.job.Job.{Job}
@@ -15,14 +15,14 @@ use Rattle.stair_status.specs.declared.status.Status.TheVariants.{Done, Halted}
 use Rattle.stair_engine.specs.Programs.{if_spelled, job_program, program_of}
 use Rattle.stair_engine.specs.Scripts.{lines}
 
--- The first line at a step of which a watcher left, where so many lines came before; the opening of the array is number 0.
+-- The first line at a step of which a watcher left, counted from `number` on. The opening of the array is number 0.
 abbrev pub halt_line : (number : ℕ) → List TraceItem → Option ℕ
 halt_line number [] = None
 halt_line number (Found (ScriptLine line) ∷ trace) = halt_line (number + 1) trace
 halt_line number (Stepped step answer events true ∷ trace) = Some number
 halt_line number (item ∷ trace) = halt_line number trace
 
--- no step was refused, and all that was to be put out was
+-- No step was refused, and all output was written.
 abbrev pub AllAreAnswered : List TraceItem → Type 0
 AllAreAnswered [] = ⊤
 AllAreAnswered (Stepped step (Ok given) events left ∷ trace) = AllAreAnswered trace
@@ -30,12 +30,12 @@ AllAreAnswered (Stepped step (Err refusal) events left ∷ trace) = ⊥
 AllAreAnswered (PutFailed part ∷ trace) = ⊥
 AllAreAnswered (item ∷ trace) = AllAreAnswered trace
 
--- after this line a script is over, or goes on with the next
+-- After this line the script is over, or continues with the next.
 abbrev pub IsBehindLine : (number : ℕ) → Program → Type 0
 IsBehindLine number rest = (rest ≡ Over Done)
     ⊎ ((g : Geometry) × (room : ℕ) × (rest ≡ lines false g room (number + 1) []))
 
--- the words are done, but a script without being halted
+-- what the words say, where a guarded script is done without being halted
 abbrev pub unguarded : Option Job → Program
 unguarded (Some (job.Guard events fences)) = job_program job.Run
 unguarded reply = if_spelled reply
@@ -43,9 +43,10 @@ unguarded reply = if_spelled reply
 abbrev pub unguarded_program : List (List ℕ) → Program
 unguarded_program words = Allocate (Ask (Words words) unguarded)
 
--- How a guarded script ended, whose watchers were these. It was halted after a line exactly where that is the first line at which a
--- watcher left, and all steps up to its end were done and all replies put out. So far it went as if it weren't guarded; and where it
--- wasn't halted it did to its end. A watcher that tells its remaining quota waits for more yet where none left.
+-- How a guarded script with these watchers ended. It was halted after a line exactly if that is the first line at which
+-- a watcher left, and all steps up to its end were done and all replies put out. Up to there it follows the unguarded
+-- program; if it was not halted, it follows it to its end. As long as no watcher left, each that reports its remaining
+-- quota still waits for more.
 pub record EndsGuarded {W : Type 0} (view : WatcherView W) (words : List (List ℕ))
     (status : Status) (trace : List TraceItem) (watchers : List W) : Type 0 where
   pub exact : (number : ℕ) → (status ≡ Halted number)
@@ -57,7 +58,7 @@ pub record EndsGuarded {W : Type 0} (view : WatcherView W) (words : List (List �
   pub patient : (front rest : List TraceItem) → trace ≡ front ++ rest → halt_line 0 front ≡ None
       → All (λ w. GoesOn (events_of_trace front) (view w).remaining_quota) watchers
 
--- so along each trace that the call follows
+-- This holds along each trace that the call follows.
 abbrev pub IsGuarded : {R W S K : Type 0} → DeviceView R W → Views S K → List (List ℕ) → Status
     → Outside S K → Outside S K → R → R → List W → List W → Type 0
 IsGuarded view streams words status old new first last watchers left =

@@ -1,4 +1,4 @@
--- What the laws say of a call that means what its words say.
+-- The laws of a call that executes the program of the words.
 use Rattle.std.specs.Prelude.{◌≡◌, ◌≢◌, ◌⊎◌, ℕ, ◌+◌, ◌*◌, ◌<◌, ◌↔◌, List, [], ◌∷◌, Some, codes, length, drop, take, slice_index, All, IfSome, IsTrue}
 use Rattle.std.specs.Fmt.{decimal}
 use Rattle.stair_model.specs.Geometry.{Geometry}
@@ -49,7 +49,7 @@ use Rattle.stair_engine.specs.Task.{one_stripe}
 abbrev pub cell_of_input : Geometry → List ℕ → ℕ → ℕ → List ℕ
 cell_of_input g input i j = take SECTOR (drop ((i * g.n + j) * SECTOR) (drop (map_bytes g) input))
 
--- the inputs have the same map, and the same bytes in each cell that it doesn't erase
+-- The inputs have the same map, and the same bytes in each cell that it does not erase.
 pub record DifferAtErased (g : Geometry) (a b : List ℕ) : Type 0 where
   pub same_length : length a ≡ length b
   pub same_map : take (map_bytes g) a ≡ take (map_bytes g) b
@@ -59,9 +59,9 @@ pub record DifferAtErased (g : Geometry) (a b : List ℕ) : Type 0 where
   pub a_bytes : All (λ x. x < 256) a
   pub b_bytes : All (λ x. x < 256) b
 
--- The laws of programs: from a call that means what its words say.
+-- THE LAWS OF PROGRAMS, from a call that executes the program of the words
 
--- it does the job that the words spell
+-- The call does the job that the words spell.
 abbrev pub WordsAreDone : {S K : Type 0} → Views S K → Type 0
 WordsAreDone {S} {K} view =
     (words : List (List ℕ)) (command : StripeCommand) (n m r : ℕ) (e : List ℕ) (status : Status)
@@ -69,32 +69,32 @@ WordsAreDone {S} {K} view =
     Executes view (program_of words) (Over status) old new →
     Does view command (one_stripe n m r e) status old new
 
--- the words spell no job exactly where the answer is Usage, if there was memory
+-- The words spell no job exactly if the answer is Usage, if there was memory.
 abbrev pub UsageIsExact : (S K : Type 0) → Type 0
 UsageIsExact S K = (view : Views S K) (words : List (List ℕ)) (status : Status)
     (old new : Outside S K) → Executes view (program_of words) (Over status) old new
     → status ≢ OutOfMemory
     → ((status ≡ Usage) ↔ (IsSpelled words → ⊥)) × (status ≢ Usage → IsSpelled words)
 
--- the words `program 4 1 2 1`
+-- the words `plan 4 1 2 1`
 abbrev pub plan_words : List (List ℕ)
 plan_words = codes "plan" ∷ decimal 4 ∷ decimal 1 ∷ decimal 2 ∷ decimal 1 ∷ []
 
 -- A call with these words is done, is out of memory, or fails at its output, and then the sink's count of faults rose. The premise is
--- part of clause `refines` of `stair` (`over.means`). So this holds of each body that meets the clause, over any rack, source and
--- sink, and no such body gives all words that spell a job one answer other than OutOfMemory:
+-- part of clause `refines` of `stair` (`over.means`): this holds for each body that meets the clause, over any rack,
+-- source and sink. No such body gives all words that spell a job the same answer, unless it is OutOfMemory:
 -- - Done falls by WordsAreDone at `check 2 1 2 1`, which breaks limit 1, and by UsageIsExact at no words.
 -- - OutputFault falls here, at each call whose sink counts no fault.
 -- - Each other status falls here, at each call.
--- That calls aren't always out of memory only tests show.
+-- Only tests show that calls are not always out of memory.
 abbrev pub PlanIsDone : (S K : Type 0) → Type 0
 PlanIsDone S K = (view : Views S K) (status : Status) (old new : Outside S K)
     → Executes view (program_of plan_words) (Over status) old new
     → IsDone status
     ⊎ ((status ≡ OutputFault) × Rose (view.sink.faults old.sink) (view.sink.faults new.sink))
 
--- of a source that tells its bytes, without faults and lack of memory, status and output are those
--- for these bytes
+-- With a source that reports its bytes, without faults and with enough memory, status and output are those
+-- for these bytes.
 abbrev pub BytesAreAnswered : {S K : Type 0} → Views S K → Type 0
 BytesAreAnswered {S} {K} view =
     (words : List (List ℕ)) (command : StripeCommand) (n m r : ℕ) (e : List ℕ) (status : Status)
@@ -105,8 +105,8 @@ BytesAreAnswered {S} {K} view =
     IfSome (view.source.left old.source) (λ bytes. Answers command (one_stripe n m r e) bytes
     (view.sink.held old.sink) (view.sink.held new.sink) status)
 
--- A fault comes only where its count rose, and no count falls, whatever the words are. No command but `read`, `run`, `guard`,
--- `serve`, `vlist` and `vread` puts anything out that isn't done.
+-- A fault comes only if its count rose, and no count falls, whatever the words are. Only `read`, `run`, `guard`,
+-- `serve`, `vlist` and `vread` put anything out if they are not done.
 abbrev pub AllIsKept : (S K : Type 0) → Type 0
 AllIsKept S K = (view : Views S K) (words : List (List ℕ)) (status : Status)
     (old new : Outside S K) → Executes view (program_of words) (Over status) old new
@@ -138,7 +138,7 @@ SourceIsLeft S K = (view : Views S K) (words : List (List ℕ)) (status : Status
     → Executes view (program_of words) (Over status) old new
     → (new.source ≡ old.source) × (status ≢ InputFault)
 
--- Where no step of a `write` was refused, the blocks that were written are the whole blocks of what came of its input, all of them.
+-- If no step of a `write` was refused, it wrote exactly the whole blocks of the input that came.
 abbrev pub WholeBlocksStand : (S K : Type 0) → Type 0
 WholeBlocksStand S K = (view : Views S K) (words : List (List ℕ)) (first count : ℕ)
     (status : Status) (old new : Outside S K) → Spells words (Write first count)
@@ -146,7 +146,7 @@ WholeBlocksStand S K = (view : Views S K) (words : List (List ℕ)) (first count
     → AreWritten first (blocks_of (whole_of (take (SECTOR * count) (taken_in means.trace))))
     means.trace
 
--- every command but those that make or open an array leaves one as it was
+-- Every command that neither makes nor opens an array leaves it as it was.
 abbrev pub ArrayIsLeft : (R W S K : Type 0) → Type 0
 ArrayIsLeft R W S K = (view : DeviceView R W) (streams : Views S K) (words : List (List ℕ))
     (status : Status) (old new : Outside S K) (first last : R) (watchers left : List W)
@@ -154,7 +154,7 @@ ArrayIsLeft R W S K = (view : DeviceView R W) (streams : Views S K) (words : Lis
     → NotSpelled MayWrite words → IsTrue view.rack.honest
     → ArrayStands (view.rack.history first) (view.rack.history last)
 
--- `create` made an array, of the geometry that the input says, where its rack is honest
+-- On an honest rack `create` made an array of the geometry that the input says.
 abbrev pub ArrayIsMade : (R W S K : Type 0) → Type 0
 ArrayIsMade R W S K = (view : DeviceView R W) (streams : Views S K) (words : List (List ℕ))
     (status : Status) (old new : Outside S K) (first last : R) (watchers left : List W)
@@ -163,7 +163,7 @@ ArrayIsMade R W S K = (view : DeviceView R W) (streams : Views S K) (words : Lis
     → MakesArray (streams.source.left old.source) (view.rack.history first)
     (view.rack.history last)
 
--- `create` writes over no array that is within tolerance, where its rack is honest
+-- On an honest rack `create` overwrites no array that is within tolerance.
 abbrev pub ArraysAreSpared : (R W S K : Type 0) → Type 0
 ArraysAreSpared R W S K = (view : DeviceView R W) (streams : Views S K) (words : List (List ℕ))
     (status : Status) (old new : Outside S K) (first last : R) (watchers left : List W)
@@ -171,7 +171,7 @@ ArraysAreSpared R W S K = (view : DeviceView R W) (streams : Views S K) (words :
     → Spells words Create → IsTrue view.rack.honest
     → SparesArrays status (view.rack.history first) (view.rack.history last)
 
--- where memory was short no device was written; and no call was made on one but to look for an array that is to be opened
+-- After OutOfMemory no device was written. No call was made on one, except to look for an array that is to be opened.
 abbrev pub MemoryComesFirst : (R W S K : Type 0) → Type 0
 MemoryComesFirst R W S K = (view : DeviceView R W) (streams : Views S K) (words : List (List ℕ))
     (old new : Outside S K) (first last : R) (watchers left : List W)
@@ -180,7 +180,7 @@ MemoryComesFirst R W S K = (view : DeviceView R W) (streams : Views S K) (words 
     → Ran LeavesSectors (view.rack.history first) (view.rack.history last))
     × (NotSpelled OpensArray words → last ≡ first)
 
--- each job is done where it can be
+-- Each job is done if it can be.
 abbrev pub AllIsComplete : (R W S K : Type 0) → Type 0
 AllIsComplete R W S K = (view : DeviceView R W) (streams : Views S K) (words : List (List ℕ))
     (job : Job) (status : Status) (old new : Outside S K) (first last : R)
@@ -188,14 +188,14 @@ AllIsComplete R W S K = (view : DeviceView R W) (streams : Views S K) (words : L
     → ExecutesWhole view streams (program_of words) (Over status) old new first last watchers left
     → IsComplete view.rack streams job status old new first last
 
--- and it is so along the trace of its call, whether media come back or not
+-- The same along the trace of its call, whether media are reinserted or not.
 abbrev pub AllIsCompleteWithReinsertion : (R W S K : Type 0) → Type 0
 AllIsCompleteWithReinsertion R W S K = (returning : Returning) (view : DeviceView R W)
     (streams : Views S K) (words : List (List ℕ)) (job : Job) (status : Status)
     (old new : Outside S K) (first last : R) (watchers left : List W) → Spells words job
     → IsCompleteWithReinsertion returning view streams words job status old new first last watchers left
 
--- a job that mends an array leaves it so, where its rack is honest
+-- On an honest rack, a job that mends an array leaves it mended.
 abbrev pub ArrayIsMended : (R W S K : Type 0) → Type 0
 ArrayIsMended R W S K = (view : DeviceView R W) (streams : Views S K) (words : List (List ℕ))
     (job : Job) (status : Status) (old new : Outside S K) (first last : R)
@@ -204,7 +204,7 @@ ArrayIsMended R W S K = (view : DeviceView R W) (streams : Views S K) (words : L
     → IsTrue view.rack.honest
     → IsMended job status (view.rack.history first) (view.rack.history last)
 
--- And of the session's array in the end it is so whatever the rack was before.
+-- The session's array in the end is mended, whatever the rack was before.
 abbrev pub SessionIsMended : (R W S K : Type 0) → Type 0
 SessionIsMended R W S K = (view : DeviceView R W) (streams : Views S K) (words : List (List ℕ))
     (job : Job) (status : Status) (old new : Outside S K) (first last : R)
@@ -213,7 +213,7 @@ SessionIsMended R W S K = (view : DeviceView R W) (streams : Views S K) (words :
     → IsTrue view.rack.honest → Mends job → status ≡ Done
     → EndsMended job whole.session (view.rack.history first) (view.rack.history last)
 
--- `scrub` tells the exact number, where its rack is honest and left alone
+-- On an honest rack that is left alone, `scrub` reports the exact number.
 abbrev pub ScrubsAreCounted : (R W S K : Type 0) → Type 0
 ScrubsAreCounted R W S K = (view : DeviceView R W) (streams : Views S K) (words : List (List ℕ))
     (status : Status) (old new : Outside S K) (first last : R) (watchers left : List W)
@@ -222,8 +222,8 @@ ScrubsAreCounted R W S K = (view : DeviceView R W) (streams : Views S K) (words 
     → IsTrue view.rack.honest → TellsCount streams.sink status old.sink new.sink
     (view.rack.history first) (view.rack.history last)
 
--- A slot is replaced, if there was memory, where the array serves along the trace, whether media come back or not, no fault is
--- counted, and the slot can be replaced as that step begins: it is Down then, and its medium is fit from then on.
+-- A slot is replaced, if there was memory, under three conditions. The array serves along the trace, whether media are
+-- reinserted or not; no fault is counted; and as that step begins the slot is Down, and its medium is fit from then on.
 abbrev pub ReplacementIsDone : (R W S K : Type 0) → Type 0
 ReplacementIsDone R W S K = (returning : Returning) (view : DeviceView R W) (streams : Views S K)
     (words : List (List ℕ)) (slot : ℕ) (status : Status) (s : State) (old new : Outside S K)
@@ -235,8 +235,8 @@ ReplacementIsDone R W S K = (returning : Returning) (view : DeviceView R W) (str
     → EachCanReplace view s.geometry whole.with.means.trace (devices first Begun watchers)
     (devices last whole.session left) whole.with.works → IsDone status
 
--- A script is done, if there was memory, where each of its lines can be: the array serves along the trace, no fault is counted, and
--- each slot that is to be replaced can be as that step begins. A guarded one may be halted.
+-- A script is done, if there was memory and each of its lines can be done: the array serves along the trace, no fault
+-- is counted, and each slot that is to be replaced can be as that step begins. A guarded script may be halted.
 abbrev pub ScriptIsDone : (R W S K : Type 0) → Type 0
 ScriptIsDone R W S K = (returning : Returning) (view : DeviceView R W) (streams : Views S K)
     (words : List (List ℕ)) (job : Job) (lines : List Line) (input : List ℕ) (status : Status)
@@ -250,7 +250,7 @@ ScriptIsDone R W S K = (returning : Returning) (view : DeviceView R W) (streams 
     → EachCanReplace view s.geometry whole.with.means.trace (devices first Begun watchers)
     (devices last whole.session left) whole.with.works → IsFinished job status
 
--- `guard` is halted exactly where a watcher left, if the list had none that had left
+-- `guard` is halted exactly if a watcher left, if none of the list had left before.
 abbrev pub GuardsHalt : (R W S K : Type 0) → Type 0
 GuardsHalt R W S K = (view : DeviceView R W) (streams : Views S K) (words : List (List ℕ))
     (events fences : ℕ) (status : Status) (old new : Outside S K) (first last : R)
@@ -258,7 +258,7 @@ GuardsHalt R W S K = (view : DeviceView R W) (streams : Views S K) (words : List
     → AllStay view.watcher watchers
     → IsGuarded view streams words status old new first last watchers left
 
--- `serve` answers no READ with an error of the devices, and no WRITE unless the array is frozen
+-- `serve` answers no READ with an error of the devices, nor a WRITE unless the array is frozen.
 abbrev pub ClientsAreAnswered : (R W S K : Type 0) → Type 0
 ClientsAreAnswered R W S K = (returning : Returning) (view : DeviceView R W) (streams : Views S K)
     (words : List (List ℕ)) (status : Status) (old new : Outside S K) (first last : R)
@@ -272,14 +272,14 @@ VolumesAreChanged R W S K = (view : DeviceView R W) (streams : Views S K) (words
     (watchers left : List W) → Spells words (Volume job)
     → ChangesVolumes job view streams words status old new first last watchers left
 
--- A read of a volume puts out the bytes of the volume alone.
+-- A read of a volume puts out only the bytes of the volume.
 abbrev pub VolumesAreReadAlike : (R W S K : Type 0) → Type 0
 VolumesAreReadAlike R W S K = (view : DeviceView R W) (streams : Views S K) (words : List (List ℕ))
     (name : List ℕ) (block count : ℕ) (status : Status) (old new : Outside S K) (first last : R)
     (watchers left : List W) → Spells words (Volume (volume.Read name block count))
     → ReadsAlike name block count view streams words status old new first last watchers left
 
--- no call raises the draws of an array by more than its replacements allow
+-- No call raises the draws of an array by more than its replacements allow.
 abbrev pub DrawsAreBounded : (R W S K : Type 0) → Type 0
 DrawsAreBounded R W S K = (view : DeviceView R W) (streams : Views S K) (words : List (List ℕ))
     (status : Status) (old new : Outside S K) (first last : R) (watchers left : List W)

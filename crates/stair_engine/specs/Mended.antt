@@ -25,9 +25,9 @@ Mends (job.Replace slot) = ⊤
 Mends job.Rebuild = ⊤
 Mends _ = ⊥
 
--- What is so by the job, of an array of this geometry of which these slots are live in the end, and those rebuilding. A scrub leaves
--- each cell of each live slot sound; a replacement leaves its slot live, and each sector that the array needs of it sound; and a
--- rebuild leaves no slot rebuilding.
+-- What the job guarantees, for an array of this geometry with these slots live and those rebuilding in the end. A scrub
+-- leaves each cell of each live slot sound. A replacement leaves its slot live, and each sector that the array needs of
+-- it sound. A rebuild leaves no slot rebuilding.
 abbrev pub IsMendedBy : Job → Geometry → (IsLive IsRebuilt : ℕ → Type 0) → List Happening
     → List Happening → Type 0
 IsMendedBy job.Scrub g IsLive IsRebuilt first last =
@@ -37,7 +37,7 @@ IsMendedBy (job.Replace slot) g IsLive IsRebuilt first last = (slot < g.n) × Is
 IsMendedBy job.Rebuild g IsLive IsRebuilt first last = (j : ℕ) → j < g.n → ¬ IsRebuilt j
 IsMendedBy _ g IsLive IsRebuilt first last = ⊤
 
--- The session has an open array in the end, of which it is so by what the session knows of its slots.
+-- The session has an open array in the end. It is mended by the marks that the session knows of its slots.
 pub record EndsMended (job : Job) (session : Phase) (first last : List Happening) : Type 0 where
   pub array : ArrayState
   pub opened : session ≡ Opened array
@@ -56,14 +56,14 @@ pub record LeavesSound (job : Job) (s : State) (first last : List Happening) : T
   -- the seats with which it was found
   pub found : Seats
   pub are_found : AreFound NoneReturns first last s found
-  -- each cell is sound of a slot that is live and wasn't as the array was found
+  -- each cell is sound of a slot that is live now and was not as the array was found
   pub brought_up : (j : ℕ) → j < s.geometry.n → (seats j).mark ≡ Live → (found j).mark ≢ Live
       → AreSoundChunks s.geometry j first last
   pub by_job : IsMendedBy job s.geometry (λ j. (seats j).mark ≡ Live)
       (λ j. (seats j).mark ≡ Rebuilding) first last
 
--- So it is where the job is done on a rack that was an array in a state, within tolerance to the end, and to which no medium came
--- back.
+-- This holds if the job is done on a rack that was an array in a state and stayed within tolerance to the end, and no
+-- medium was reinserted.
 abbrev pub IsMended : Job → Status → List Happening → List Happening → Type 0
 IsMended job status first last = Mends job → status ≡ Done → (s : State) → IsHistory first
     → Represents s first → ToleratedSince s.geometry first last → NothingReturned first last

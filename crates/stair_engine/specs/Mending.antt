@@ -1,5 +1,5 @@
--- What the commands do by which an array is looked after: it is opened, and its stripes are scrubbed, one of its devices is replaced,
--- its slots are rebuilt, or it is frozen, thawed or named.
+-- What the maintenance commands do. They open an array, and scrub its stripes, replace one of its devices, rebuild its
+-- slots, freeze it, thaw it or label it.
 use Rattle.std.specs.Prelude.{◌+◌, ℕ, zero, suc, Bool, true, false, nat_lt, List, [], ◌∷◌, ◌++◌, codes}
 use Rattle.std.specs.Fmt.{decimal}
 use Rattle.stair_model.specs.Geometry.{Geometry}
@@ -11,7 +11,7 @@ use Rattle.stair_command.specs.Program.{Program, Over, Put, RebuildAll, take_ste
 
 -- SCRUBS
 
--- the line for so many stripes that were scrubbed, in which so many cells were written anew
+-- the line for these numbers of scrubbed stripes and of rewritten cells
 abbrev pub scrubbed_line : (stripes cells : ℕ) → List ℕ
 scrubbed_line stripes cells = codes "scrubbed " ++ (decimal stripes
     ++ (codes " stripes cells " ++ (decimal cells ++ 10 ∷ [])))
@@ -20,7 +20,7 @@ scrubbed_line stripes cells = codes "scrubbed " ++ (decimal stripes
 abbrev pub scrubbed : (stripes cells : ℕ) → Program
 scrubbed stripes cells = Put (scrubbed_line stripes cells) (Over Done)
 
--- so many stripes from this one on, in rising order, after so many cells
+-- scrubs `left` stripes from `stripe` on, in ascending order, after `cells` rewritten cells
 abbrev pub scrubs : Geometry → (stripe left cells : ℕ) → Program
 scrubs g stripe zero cells = scrubbed stripe cells
 scrubs g stripe (suc left) cells =
@@ -31,7 +31,7 @@ scrub_program = opens_array (λ g. scrubs g 0 g.stripes 0)
 
 -- REBUILDS
 
--- the line for so many steps, each of which wrote a chunk, ended a rebuild or dropped a slot
+-- the line for this number of steps, each of which wrote a chunk, ended a rebuild or dropped a slot
 abbrev pub rebuilt_line : ℕ → List ℕ
 rebuilt_line steps = codes "rebuild " ++ (decimal steps ++ (codes " steps" ++ 10 ∷ []))
 
@@ -52,7 +52,7 @@ abbrev pub if_live : ℕ → Mark → Program
 if_live slot Live = replaced slot
 if_live slot _ = Over (Gone slot)
 
--- the slot gets the device in it for its own, and all that is rebuilt is rebuilt to its end
+-- admits the device in the slot, and rebuilds to its end whatever is being rebuilt
 abbrev pub replaces : Geometry → ℕ → Program
 replaces g slot = take_step g.n (ReplaceSlot slot) (λ done. RebuildAll g.n 0 (λ steps.
     take_step g.n LookAtSeats (λ seats. if_live slot (seats slot).mark)))

@@ -1,4 +1,4 @@
--- What each command does, whatever comes of it: its program, which the words give.
+-- What each command does: its program, which the words give.
 use Rattle.std.specs.Prelude.{ℕ, ◌+◌, List, [], ◌∷◌, ◌++◌, codes, Option, None, Some, Result, Ok, Err}
 use Rattle.std.specs.Fmt.{decimal}
 use Rattle.hex.specs.Hex.{encode_lower}
@@ -58,7 +58,7 @@ abbrev pub created_line : Geometry → List ℕ
 created_line g = codes "created " ++ (encode_lower g.id
     ++ (codes " blocks " ++ (decimal (block_count g) ++ 10 ∷ [])))
 
--- The line is made before the devices are touched, so that memory can't be short after that.
+-- The line is made before the devices are touched: no memory is needed after that.
 abbrev pub making_program : Result Geometry ConfigFault → Program
 making_program (Ok g) = Allocate (Do (Create g) (λ done. Put (created_line g) (Over Done)))
 making_program (Err fault) = Over (status_of_config fault)
@@ -99,6 +99,6 @@ abbrev pub if_spelled : Option Job → Program
 if_spelled None = Over Usage
 if_spelled (Some job) = job_program job
 
--- what the words say; memory may be short where they are read
+-- what the words say; memory may run out while they are read
 abbrev pub program_of : List (List ℕ) → Program
 program_of words = Allocate (Ask (Words words) if_spelled)

@@ -1,4 +1,4 @@
--- What `run` and `guard` do: an array is opened, and the lines of a script are done, one after the other.
+-- What `run` and `guard` do: they open an array, and do the lines of a script in order.
 use Rattle.std.specs.Prelude.{◌≡◌, ◌+◌, ◌||◌, ℕ, zero, suc, Bool, true, false, nat_lt, List, [], ◌∷◌, ◌++◌, Option, None, Some, codes}
 use Rattle.std.specs.Fmt.{decimal}
 use Rattle.hex.specs.Hex.{encode_lower}
@@ -34,13 +34,13 @@ admitted_reply slot = codes "admitted " ++ (decimal slot ++ 10 ∷ [])
 
 -- LINES
 
--- after a step of a rebuild, of which so many are left: it ends where there was nothing to rebuild
+-- after a step of a rebuild: it ends if there was nothing to rebuild
 abbrev pub if_nothing : Program → Program → Progress → Program
 if_nothing end more Nothing = end
 if_nothing end more progress = more
 
--- At most so many steps of a rebuild, up to the first that finds nothing, after so many. The rest takes their number, and whether a
--- watcher left at one of them or before.
+-- At most `left` steps of a rebuild, up to the first that finds nothing, after `done` steps. The rest takes their
+-- number, and whether a watcher left at one of them or before.
 abbrev pub some_rebuilds : (slots left done : ℕ) → Bool → (ℕ → Bool → Program) → Program
 some_rebuilds slots zero done gone k = k done gone
 some_rebuilds slots (suc left) done gone k = watch_step slots RebuildNext (λ progress more.
@@ -86,7 +86,7 @@ pub record ReplyIsCut {K : Type 0} (view : SinkView K) (reply : Option (List ℕ
   pub of : IsPart part whole
   pub holds : Holds view (PutFailed part) old new
 
--- so a line is done that is one, and else the call ends with its number
+-- does the line, or ends the call with its number if it is not a line
 abbrev pub if_line : Geometry → (number : ℕ) → (Bool → Program) → Option Line → Program
 if_line g number rest None = Over (BadLine number)
 if_line g number rest (Some said) = line_program g said rest
@@ -100,7 +100,7 @@ does_line g number line rest = Ask (ScriptLine line) (if_line g number rest)
 abbrev pub MAX_SCRIPT_LINE : ℕ
 MAX_SCRIPT_LINE = 1100
 
--- A guarded script is halted after a line at which a watcher left. Where the array was opened it is number 0.
+-- A guarded script is halted after a line at which a watcher left. The opening of the array is number 0.
 abbrev pub if_halted : Bool → (number : ℕ) → Program → Bool → Program
 if_halted guarded number rest left =
     if_so guarded (if_so left (Over (Halted number)) rest) rest
@@ -116,7 +116,7 @@ script_over so_far = Over Done
 abbrev pub last_line : Bool → Geometry → (number : ℕ) → List ℕ → Program
 last_line guarded g number line = last_of (script_line guarded g) script_over number line tt
 
--- what is left of a script of at most so many bytes more, of whose line of this number these bytes came
+-- The rest of a script: at most `room` more bytes, after these bytes of line `number`.
 abbrev pub lines : Bool → Geometry → (room number : ℕ) → List ℕ → Program
 lines guarded g room number line =
     by_lines MAX_SCRIPT_LINE (script_line guarded g) script_over room number line tt

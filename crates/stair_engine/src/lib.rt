@@ -1,4 +1,4 @@
-//! The top call of the array program.
+//! The top call of the array program: [`stair`] does one command line.
 #![tactic(auto)]
 
 mod blocks;
@@ -81,41 +81,52 @@ use task::one_stripe;
 use volumes::volumes;
 use write::write;
 
-/// Does what the words say, over this input and output and the devices of the rack, and tells what came of it.
+/// Does the command of a command line over the input, the output and the devices of the rack, and returns its status.
 ///
-/// `docs/reference.md` has what each command takes, does and puts out, and when each status comes. In short: `check`, `stripe` and
-/// `restore` work on one stripe of n·r cells of 512 bytes and make no call on the rack; `create` takes a geometry text, of at
-/// most 4,096 bytes, and makes an array of it ([`stair_array::create`]); `show` looks for an array ([`stair_member::survey`]),
-/// takes nothing and changes nothing on a device. `read` and `write` look for an array, open it ([`stair_array::Array`]) and put out
-/// blocks of it, or take and write them: `read` puts out each block before it reads the next, and `write` writes the whole
-/// blocks of a stripe that came, as one step, before it takes more. `scrub`, `replace`, `rebuild`, `freeze`, `thaw` and `label` look
-/// for an array and open it too, and look after it by steps of `stair_mend`: all stripes are scrubbed, a device is admitted and
-/// rebuilt, or what is rebuilt is rebuilt to its end; or an epoch has another frozen mark or label. They take nothing, and put out
-/// a line once all is done.
-/// `run` opens the array and does the lines of a script ([`stair_script::read_line`]), one after the other: each once its end came,
-/// or that of the input, and its reply is put out before more is taken. `exercise` opens it and takes the steps that a number gives;
-/// it takes nothing, and puts out a line once all is done. `guard` is `run` that is halted after the first line at which a watcher
-/// left, or before its first line where one left as the array was opened: whoever calls it chooses the watchers, whatever its numbers
-/// are. `report` counts the events that the lines of its input tell ([`stair_monitor::report`]), and makes no call on the rack.
-/// `serve` takes memory for all that a client sends at once, opens the array, and has one client of the protocol NBD over input and
-/// output ([`stair_nbd::session`]), whose block device it is. `vinit`, `vmake`, `vdrop`, `vlist`, `vread` and `vwrite` open the array
-/// and do a command on the named volumes of it ([`stair_volume::volume`]), of which block 0 is the table; `vwrite` alone takes its
-/// input. `plan` puts out what the code of a geometry costs ([`stair_plan::plan`]), and makes no call on the rack.
+/// `docs/reference.md` has what each command takes, does and writes, and when each status comes. In short:
 ///
-/// The words are tested first, then the limits of the geometry of a stripe, then the input: what is refused before the input
-/// is taken leaves input, output and counter as they were, and nothing is put out before the answer is known. `InputFault`
-/// leaves the output as it was, and after `OutputFault` a part of the output stands; after that of `create` there is an array.
-/// What `read`, `run`, `guard`, `serve`, `vlist` and `vread` put out before they end stands, and so does each block that `write` or
-/// `vwrite` wrote before one, or before an input that ends or fails, and each step of the others that came before one. Where a
-/// step is refused with `TooFew` or `EpochsSpent` its blocks are old, new, or in doubt.
+/// - `check`, `stripe` and `restore` work on one stripe of n·r cells of 512 bytes. They make no call on the rack.
+/// - `create` takes a geometry text of at most 4,096 bytes and makes an array of it ([`stair_array::create`]).
+/// - `show` looks for an array ([`stair_member::survey`]). It takes no input and changes nothing on a device.
+/// - All commands below but `report` and `plan` look for an array and open it ([`stair_array::Array`]).
+/// - `read` writes blocks of the array to the output, each before it reads the next. `write` takes blocks and writes
+///   them: the whole blocks of a stripe that came, as one step, before it takes more.
+/// - `scrub` scrubs all stripes. `replace` admits a device and rebuilds it. `rebuild` rebuilds to its end whatever is
+///   being rebuilt. `freeze`, `thaw` and `label` make an epoch with another frozen mark or label. These six use the
+///   steps of `stair_mend`. They take no input, and write a line once all is done.
+/// - `run` does the lines of a script in order ([`stair_script::read_line`]): each once its end came, or the end of the
+///   input. Its reply is written before more is taken.
+/// - `guard` is `run` that is halted after the first line at which a watcher left, or before its first line if one left
+///   as the array was opened. The caller chooses the watchers, whatever the numbers of the command are.
+/// - `exercise` takes the steps that a number gives. It takes no input, and writes a line once all is done.
+/// - `report` counts the events that the lines of its input spell ([`stair_monitor::report`]). It makes no call on the
+///   rack.
+/// - `serve` first takes memory for all that a client sends at once, then opens the array. It serves one client of the
+///   protocol NBD over input and output ([`stair_nbd::session`]), as its block device.
+/// - `vinit`, `vmake`, `vdrop`, `vlist`, `vread` and `vwrite` work on named volumes ([`stair_volume::volume`]), whose
+///   table is block 0. Of these only `vwrite` takes its input.
+/// - `plan` writes what the code of a geometry costs ([`stair_plan::plan`]). It makes no call on the rack.
+///
+/// The words are tested first, then the limits of the geometry of a stripe, then the input. What is refused before the
+/// input is taken leaves input, output and counter as they were, and nothing is written to the output before the answer
+/// is known.
+///
+/// What holds after an error:
+///
+/// - After `InputFault` the output is as it was. After `OutputFault` a part of the output was written; if `create`
+///   returns it, there is an array.
+/// - Output that `read`, `run`, `guard`, `serve`, `vlist` and `vread` wrote before the error stays written.
+/// - Each block that `write` or `vwrite` wrote before an error, or before an input that ends or fails, stays written.
+///   Steps of the other commands before the error stay done.
+/// - If a step is refused with `TooFew` or `EpochsSpent`, its blocks are old, new, or in doubt.
 ///
 /// The counter rises by exactly the steps of the encoder that METHOD of `stripe` chooses. No other command counts.
 ///
-/// The watchers are told, in order, of each event of an array in the steps of the call; one that leaves is taken out and
-/// dropped.
+/// Each event of an array in the steps of the call is reported to the watchers, in order. A watcher that leaves is
+/// removed and dropped.
 ///
-/// `OutOfMemory` may come in place of any other answer, once a command's word came first and no word begins with a hyphen.
-/// No device was written then.
+/// `OutOfMemory` may come in place of any other answer, if the first word is a command's and no word begins with a
+/// hyphen. No device was written then.
 pub fn stair<R: Rack, S: Source, K: Sink, L: Ledger>(
     alloc: Global,
     words: &[String],
@@ -128,95 +139,97 @@ pub fn stair<R: Rack, S: Source, K: Sink, L: Ledger>(
     // None of the watchers has left.
     requires { AllStay hears watchers.old.items }
 
-    // The call went as the program of the words says, and source, sink, counter, rack and watchers bear it out.
+    // The call refines the program of the words, over source, sink, counter, rack and watchers.
     ensures refines { RefinesProgram (device_view (rack_view R.Rack) hears) (views S.Source K.Sink)
         (program_of (map string_bytes words.now)) (Over result)
         (outside input.old output.old steps.old) (outside input.new output.new steps.new)
         rack.old rack.new watchers.old.items watchers.new.items }
 
-    // Those that are left haven't left, so they may be told of what the next call does.
+    // None of the remaining watchers has left: they can be given to the next call.
     ensures stay { AllStay hears watchers.new.items }
 
-    // Lack of memory: only where a command's word comes first and no word begins with a hyphen.
+    // Out of memory: only if the first word is a command's and no word begins with a hyphen.
     ensures memory { result ≡ Status.OutOfMemory → IsCommandLine (map string_bytes words.now) }
 
-    // What `create` made on an honest rack: the array of the geometry that the input says, whose blocks are zeros. It is
-    // there too where only its line couldn't be put out.
+    // On an honest rack `create` made the array of the geometry that the input says, with blocks of zeros. This holds
+    // also if only its line could not be written.
     ensures created { IsTrue R.is_honest → Spells (map string_bytes words.now) Create → IsOnceMade result →
         MakesArray (S.left input.old) (R.history rack.old) (R.history rack.new) }
 
-    // On an honest rack `create` writes over no array: where one, of whatever geometry, is within tolerance before anything
-    // is written, and no medium comes back, none is made and no device is written.
+    // On an honest rack `create` overwrites no array. If an array of any geometry is within tolerance before anything
+    // is written, and no medium is reinserted, then none is made and no device is written.
     ensures spared { IsTrue R.is_honest → Spells (map string_bytes words.now) Create →
         SparesArrays result (R.history rack.old) (R.history rack.new) }
 
-    // On an honest rack every command but those that make or open an array leaves one as it was: at every moment, and at the
-    // end.
+    // On an honest rack every command that neither makes nor opens an array leaves the array as it was, at every moment
+    // and at the end.
     ensures stands { IsTrue R.is_honest → NotSpelled MayWrite (map string_bytes words.now) →
         ArrayStands (R.history rack.old) (R.history rack.new) }
 
-    // Where it can be done, and neither source nor sink fails, the answer is Done or lack of memory, or of `guard` that it was halted,
-    // or of a command on volumes what they and its input make of it.
+    // If a command can be done, and neither source nor sink fails, the answer is Done or OutOfMemory. `guard` may also
+    // be halted, and a command on volumes ends as the volumes and its input allow.
     ensures complete { (job : Jobs) → Spells (map string_bytes words.now) job →
         IsComplete (rack_view R.Rack) (views S.Source K.Sink) job result
         (outside input.old output.old steps.old) (outside input.new output.new steps.new)
         rack.old rack.new }
 
-    // `guard` is halted exactly after the first line at which a watcher left, once its steps were done and its reply was put out; up
-    // to there it went as `run` does. A watcher that tells its remaining quota is waiting for more where none left.
+    // `guard` is halted exactly after the first line at which a watcher left, once the line's steps were done and its
+    // reply was written. Up to there it does what `run` does. If no watcher left, each that reports its remaining quota
+    // is waiting for more.
     ensures halted { (events fences : ℕ) → Spells (map string_bytes words.now) (Guard events fences) →
         IsGuarded (device_view (rack_view R.Rack) hears) (views S.Source K.Sink) (map string_bytes words.now) result
         (outside input.old output.old steps.old) (outside input.new output.new steps.new)
         rack.old rack.new watchers.old.items watchers.new.items }
 
-    // So it is too where media that were pulled are put back, along each trace that the call follows: where the array serves along it,
-    // failures staying within tolerance.
+    // The same holds if media that were pulled are reinserted, along each trace of the call: if the array serves along
+    // it, with failures within tolerance.
     ensures complete_with_reinsertion { (job : Jobs) → Spells (map string_bytes words.now) job →
         IsCompleteWithReinsertion AnyReturns
         (device_view (rack_view R.Rack) hears) (views S.Source K.Sink) (map string_bytes words.now) job result
         (outside input.old output.old steps.old) (outside input.new output.new steps.new)
         rack.old rack.new watchers.old.items watchers.new.items }
 
-    // `serve` answers no READ with an error of the devices, and no WRITE unless the array is frozen, along each trace that bears out the
-    // call, where the array serves along it, whether media come back or not.
+    // `serve` answers no READ with an error of the devices, nor a WRITE unless the array is frozen. This holds along
+    // each trace of the call along which the array serves, whether media are reinserted or not.
     ensures answered { Spells (map string_bytes words.now) Serve → (returning : Returning)
         → AnswersClient returning
         (device_view (rack_view R.Rack) hears) (views S.Source K.Sink) (map string_bytes words.now) result
         (outside input.old output.old steps.old) (outside input.new output.new steps.new)
         rack.old rack.new watchers.old.items watchers.new.items }
 
-    // A command on volumes makes of them what it is to make, and of no other: at the end of the call, and after a crash at any moment
-    // of it, they are those from before or those after, of a write with some of its blocks from the first on. Once it is done they
-    // are those after, and `vread` put out what its volume holds.
+    // A command on volumes changes what it is to change, and nothing else. At the end of the call, and after a crash at
+    // any moment of it, the volumes are those from before or those after; a write may have written some of its blocks,
+    // from the first on. Once it is done, they are those after, and `vread` wrote what its volume holds.
     ensures volumes { (job : VolumeJobs) → Spells (map string_bytes words.now) (Volume job) →
         ChangesVolumes job
         (device_view (rack_view R.Rack) hears) (views S.Source K.Sink) (map string_bytes words.now) result
         (outside input.old output.old steps.old) (outside input.new output.new steps.new)
         rack.old rack.new watchers.old.items watchers.new.items }
 
-    // What `vread` puts out depends on its volume alone: two arrays that hold the same volume are read alike.
+    // What `vread` writes depends only on its volume: two arrays that hold the same volume are read alike.
     ensures alike { (name : List ℕ) (block count : ℕ) → Spells (map string_bytes words.now) (Volume (Read name block count)) →
         ReadsAlike name block count
         (device_view (rack_view R.Rack) hears) (views S.Source K.Sink) (map string_bytes words.now) result
         (outside input.old output.old steps.old) (outside input.new output.new steps.new)
         rack.old rack.new watchers.old.items watchers.new.items }
 
-    // On an honest rack that is an array in a state, within tolerance to the end and to which no medium comes back: the draws of its
-    // superblocks rise by at most 100, and five for each replacement in the call. This holds at every moment of the call, and after a
-    // crash then.
+    // The rack is honest and an array in a state, stays within tolerance to the end, and no medium is reinserted. Then
+    // the draws of its superblocks rise by at most 100, and five for each replacement in the call. This holds at every
+    // moment of the call, and after a crash then.
     ensures bounded { BoundsDraws
         (device_view (rack_view R.Rack) hears) (views S.Source K.Sink) (map string_bytes words.now) result
         (outside input.old output.old steps.old) (outside input.new output.new steps.new)
         rack.old rack.new watchers.old.items watchers.new.items }
 
-    // On an honest rack that is an array in a state, within tolerance to the end and to which no medium comes back: once `scrub` is
-    // done each cell of a live slot was good at some moment of the call, and so was each sector of its slot once `replace` is; and once
-    // one of these or `rebuild` is, each cell of a slot that is live and wasn't as the array was found.
+    // The rack is honest and an array in a state, stays within tolerance to the end, and no medium is reinserted. Once
+    // `scrub` is done, each cell of a live slot was good at some moment of the call. Once `replace` is done, each
+    // sector of its slot was. Once one of these or `rebuild` is done, each cell was of a slot that is live and was not
+    // as the array was found.
     ensures mended { (job : Jobs) → Spells (map string_bytes words.now) job → IsTrue R.is_honest →
         IsMended job result (R.history rack.old) (R.history rack.new) }
 
-    // On such a rack that is left alone meanwhile, and on which no redo is left, the line of `scrub` tells exactly how many stripe
-    // cells couldn't be read at first, on the slots that were live.
+    // On such a rack, if it is left alone meanwhile and no redo is left on it, the line of `scrub` has the exact number
+    // of stripe cells that could not be read at first, on the slots that were live.
     ensures counted { IsTrue R.is_honest → Spells (map string_bytes words.now) Scrub →
         TellsCount (sink_view K.Sink) result output.old output.new
         (R.history rack.old) (R.history rack.new) }
@@ -228,7 +241,7 @@ pub fn stair<R: Rack, S: Source, K: Sink, L: Ledger>(
     }
 }
 
-/// Does the job. A broken limit of a stripe's geometry is told without asking for memory.
+/// Does the job. A broken limit of a stripe's geometry is reported before memory is asked for.
 fn work<R: Rack, S: Source, K: Sink, L: Ledger>(
     alloc: Global,
     job: Job,
@@ -313,7 +326,7 @@ fn work<R: Rack, S: Source, K: Sink, L: Ledger>(
     }
 }
 
-/// The status of a report.
+/// Returns the status of a report.
 fn reported(done: Result<(), ReportFault>) -> Status
     ensures { result ≡ status_of_report done }
 {
@@ -323,7 +336,7 @@ fn reported(done: Result<(), ReportFault>) -> Status
     }
 }
 
-/// Does this with a stripe of this geometry.
+/// Does a command on one stripe of this geometry.
 fn run<S: Source, K: Sink, L: Ledger>(
     alloc: Global,
     command: StripeCommand,

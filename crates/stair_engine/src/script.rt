@@ -20,8 +20,9 @@ use std::alloc::Global;
 
 /// Opens the array of the rack, and does the lines of a script, which is the input.
 ///
-/// It is taken byte by byte, so that the reply to a line is put out before anything after it is taken. A guarded script is halted
-/// after the first line at which a watcher left, or before its first line where one left as the array was opened.
+/// The input is taken byte by byte: the reply to a line is written before anything after the line is taken. A guarded
+/// script is halted after the first line at which a watcher left, or before its first line if one left as the array was
+/// opened.
 pub(crate) fn run_script<R: Rack, S: Source, K: Sink>(
     alloc: Global,
     guarded: bool,
@@ -94,7 +95,7 @@ fn do_lines<C: StripeCode, R: Rack, S: Source, K: Sink>(
     do_last(array, guarded, line.bytes(), number, rack, output, watchers)
 }
 
-// Does what stands after the last end of a line, which is no line where it is nothing.
+// Does the text after the last end of a line. It is a line only if it is not empty.
 fn do_last<C: StripeCode, R: Rack, K: Sink>(
     array: &mut ObservedArray<C>,
     guarded: bool,
@@ -126,7 +127,7 @@ fn do_last<C: StripeCode, R: Rack, K: Sink>(
     Ok(Status::Done)
 }
 
-// Whether a script is halted where there were so many watchers, and so many are left.
+// Returns whether a script is halted, by the number of watchers before and the number that are left.
 fn is_halted(guarded: bool, before: usize, left: usize) -> bool
     ensures halted { result ≡ true → (guarded ≡ true) × (left < before) }
     ensures goes_on { result ≡ false → guarded ≡ true → before ≤ left }

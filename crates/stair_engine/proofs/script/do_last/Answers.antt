@@ -1,4 +1,4 @@
--- What stands after the last end of a line.
+-- The text after the last end of a line.
 use Rattle.std.proofs.Common.{arith, rules}
 use Rattle.stair_array.specs.Promise.{Opened}
 use Rattle.stair_command.proofs.DeviceLaws.{with_hands_on}
