@@ -1,4 +1,4 @@
-//! Whole calls of `stair` over racks in memory, what each answered, and what a rack holds then. For tests alone.
+//! Whole calls of `stair` over racks in memory, their results, and what a rack holds then. For tests only.
 #![tactic(auto)]
 
 ghost use Rattle.std.specs.Prelude.{◌≡◌, ◌<◌};
@@ -19,11 +19,11 @@ use std::sync::ledger::{Blank, Ledger};
 /// How a source gives its bytes, and how many a sink takes.
 #[derive(Clone, Copy)]
 pub struct Ends {
-    /// so many bytes at most in one answer
+    /// The most bytes in one answer.
     pub piece: usize,
-    /// the byte at which the source fails
+    /// The byte at which the source fails.
     pub fails_at: Option<u64>,
-    /// the room of the sink
+    /// The most bytes that the sink takes.
     pub room: usize,
 }
 
@@ -34,13 +34,13 @@ pub const WHOLE: Ends = Ends {
     room: 10_000,
 };
 
-/// The first three events that a watcher kept; None where there is no watcher any more.
+/// The first three events that a watcher kept, or `None` if the watcher has left.
 pub type Told = Option<[Option<Event>; 3]>;
 
-/// A watcher that is left and was told of no event.
+/// The events of a watcher that remains and to which no event was reported.
 pub const NOTHING_TOLD: Told = Some([None; 3]);
 
-/// These events, one after the other.
+/// Returns the events of a watcher that kept these, in order.
 pub fn told(events: &[Event]) -> Told {
     let mut kept = [None; 3];
     for (slot, event) in kept.iter_mut().zip(events.iter()) {
@@ -49,22 +49,22 @@ pub fn told(events: &[Event]) -> Told {
     Some(kept)
 }
 
-/// What is told where this slot was left out of the array, and nothing else.
+/// Returns the events of a watcher to which only a fence of this slot was reported.
 pub fn fenced(slot: u8) -> Told {
     told(&[Event::Fenced { slot }])
 }
 
-/// What came of a call.
+/// The result of a call.
 #[derive(Drop)]
 pub struct Came {
     pub status: Status,
     pub put: Vec<u8>,
     pub told: Told,
-    /// how many bytes of the input weren't taken
+    /// The number of bytes of the input that were not taken.
     pub left: usize,
 }
 
-/// Calls with the words of a line.
+/// Calls `stair` with the words of a line.
 pub fn call<R: Rack>(
     alloc: Global,
     rack: &mut R,
@@ -83,7 +83,7 @@ pub fn call<R: Rack>(
     })
 }
 
-/// How a call ended, but for what was put out.
+/// The result of a call, without its output.
 #[derive(Clone, Copy)]
 pub struct Ended {
     pub status: Status,
@@ -91,7 +91,7 @@ pub struct Ended {
     left: usize,
 }
 
-/// Calls with these words and this sink.
+/// Calls `stair` with these words and this sink.
 pub fn call_into<R: Rack, K: Sink>(
     alloc: Global,
     rack: &mut R,
@@ -110,7 +110,8 @@ pub fn call_into<R: Rack, K: Sink>(
     Ok(Ended { status, told, left })
 }
 
-/// Calls with these words, this sink and these watchers: the status, and how many bytes of the input weren't taken.
+/// Calls `stair` with these words, this sink and these watchers. Returns the status, and how many bytes of the input
+/// were not taken.
 pub fn call_watched<R: Rack, K: Sink>(
     alloc: Global,
     rack: &mut R,
@@ -158,7 +159,7 @@ fn call_on<R: Rack, K: Sink, L: Ledger>(
     Ok((status, source.left().len()))
 }
 
-/// The words of a line, with one blank between two of them.
+/// Returns the words of a line, with one space between two of them.
 pub fn words_of(alloc: Global, line: &str) -> Result<Vec<String>, AllocError> {
     let mut words = Vec::new(alloc);
     for word in line.split(' ') {
@@ -167,7 +168,7 @@ pub fn words_of(alloc: Global, line: &str) -> Result<Vec<String>, AllocError> {
     Ok(words)
 }
 
-/// The status of too few slots, of which the first ones have these reasons and the others are here.
+/// Returns the status of too few slots. The first ones have these reasons, and the others are present.
 pub fn too_few(first: &[Why]) -> Status {
     let mut whys = [Why::Here; 32];
     for (slot, why) in whys.iter_mut().zip(first.iter()) {
@@ -176,7 +177,7 @@ pub fn too_few(first: &[Why]) -> Status {
     Status::TooFew(whys)
 }
 
-/// Blocks one after the other, each filled with one of these bytes.
+/// Returns blocks in order, each filled with one of these bytes.
 pub fn blocks_of(alloc: Global, fillings: &[u8]) -> Result<Vec<u8>, AllocError> {
     let mut bytes = Vec::new(alloc);
     for filling in fillings {
@@ -185,7 +186,7 @@ pub fn blocks_of(alloc: Global, fillings: &[u8]) -> Result<Vec<u8>, AllocError> 
     Ok(bytes)
 }
 
-/// A text in which each `@` represents the 1,024 digits of a sector of this byte.
+/// Returns a text with each `@` replaced by the 1,024 digits of a sector of this byte.
 pub fn with_digits(alloc: Global, text: &str, digits: [u8; 2]) -> Result<Vec<u8>, AllocError> {
     let mut bytes = Vec::new(alloc);
     for byte in text.as_bytes() {
@@ -202,10 +203,10 @@ pub fn with_digits(alloc: Global, text: &str, digits: [u8; 2]) -> Result<Vec<u8>
 
 // RACKS
 
-/// How many calls a rack keeps.
+/// The number of calls that a rack keeps.
 pub const CALLS: u32 = 8000;
 
-/// An array: the text that it is made of, how many devices it has, and how many sectors each.
+/// The shape of an array: its geometry text, its number of devices, and the sectors of each.
 #[derive(Clone, Copy)]
 pub struct Shape {
     pub text: &'static str,
@@ -220,32 +221,32 @@ pub const FOUR: Shape = Shape {
     sectors: 17,
 };
 
-/// This happens before the call of the rack with this number.
+/// Returns an act: this happens before the call of the rack with this number.
 pub fn act(at: u32, what: What) -> Act {
     Act { at, what }
 }
 
-/// A rack over media of which `create` made this array.
+/// Returns a rack on which `create` made this array.
 pub fn created(alloc: Global, shape: &Shape) -> Result<MemRack, AllocError> {
     let mut rack = MemRack::new(alloc, shape.devices.min(32), shape.sectors, &[], CALLS)?;
     let _ = call(alloc, &mut rack, "create", shape.text.as_bytes(), WHOLE)?;
     Ok(rack)
 }
 
-/// What a crash leaves of a rack in which each pending sector is torn, and then this happens.
+/// Returns what a crash leaves of a rack, with each pending sector torn. Then these acts happen.
 pub fn restarted(alloc: Global, rack: MemRack, acts: &[Act]) -> Result<MemRack, AllocError> {
     rack.after_crash(alloc, &[9; 100], acts, CALLS)
 }
 
-/// A rack with a new array, on which no call was made yet, and to which this happens.
+/// Returns a rack with a new array, on which no call was made yet, and to which these acts happen.
 pub fn with_array(alloc: Global, shape: &Shape, acts: &[Act]) -> Result<MemRack, AllocError> {
     restarted(alloc, created(alloc, shape)?, acts)
 }
 
-/// What fills the blocks of the array of four devices.
+/// The bytes that fill the blocks of the array of four devices.
 pub const FILLINGS: [u8; 15] = [1, 2, 3, 4, 5, 6, 7, 8, 9, 10, 11, 12, 13, 14, 15];
 
-/// A rack with the array of four devices, all of whose blocks were written, to which this happens.
+/// Returns a rack with the array of four devices, all of whose blocks were written, to which these acts happen.
 pub fn with_blocks(alloc: Global, acts: &[Act]) -> Result<MemRack, AllocError> {
     let mut rack = created(alloc, &FOUR)?;
     let blocks = blocks_of(alloc, &FILLINGS)?;
@@ -253,7 +254,7 @@ pub fn with_blocks(alloc: Global, acts: &[Act]) -> Result<MemRack, AllocError> {
     restarted(alloc, rack, acts)
 }
 
-/// What a sector reads as, where it does.
+/// Returns what a sector reads as, or `None` if it cannot be read.
 pub fn sector(rack: &mut MemRack, slot: u8, number: u32) -> Option<[u8; 512]> {
     let slot = slot.min(31);
     let mut into = [0; 512];
@@ -263,7 +264,7 @@ pub fn sector(rack: &mut MemRack, slot: u8, number: u32) -> Option<[u8; 512]> {
     }
 }
 
-/// The sectors of four devices from this one on, as they read.
+/// Returns the sectors of four devices from this one on, as they read.
 pub fn sectors_of(
     alloc: Global,
     rack: &mut MemRack,
@@ -279,7 +280,7 @@ pub fn sectors_of(
     Ok(sectors)
 }
 
-/// Makes the superblocks in both places of four devices those of the first version, in the first epoch.
+/// Replaces the superblocks in both places of four devices by those of the first version, in the first epoch.
 pub fn make_older(rack: &mut MemRack) {
     for slot in 0..4 {
         rack.attach(slot);

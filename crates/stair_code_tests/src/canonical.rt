@@ -24,7 +24,7 @@ fn rows(canon: &Canon) -> u8
     geometry.r() + geometry.e_max()
 }
 
-// Extends a chunk on this ledger, and tells one of its symbols.
+// Extends a chunk on this ledger, and returns one of its symbols.
 fn extend<L: Ledger>(blank: Blank, canon: &mut Canon, row: u16, column: u16) -> Option<[u8; SYMBOL]>
     requires name { blank.name ≡ L.name }
     requires parts { blank.parts ≡ L.parts }

@@ -13,7 +13,7 @@ use std::process::Abort;
 use std::sync::ledger::{Blank, Ledger};
 use std::test::Fail;
 
-// What stands in erased cells, and in parities that aren't made yet.
+// The bytes of erased cells, and of parities that are not computed yet.
 const JUNK: [u8; SECTOR] = [0xA5; SECTOR];
 
 // A codeword of eight devices with two row parities, four rows and coverage 1, 1, 2, row by row, each cell filled with its

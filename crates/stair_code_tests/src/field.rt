@@ -1,4 +1,4 @@
-// The products as they are built, beside the plain ones as they are built.
+// Compares the compiled products with the compiled plain ones.
 ghost use Rattle.std.specs.Prelude.{◌≡◌, ◌<◌, ◌≤◌, length};
 
 use stair_gf::{Factor, SYMBOL, inv, mul, mul_add, mul_add_plain, mul_plain, sums};
@@ -54,7 +54,7 @@ fn factor(d: usize, i: usize) -> u8
     ((d * 59 + i * 7 + 3) % 256) as u8
 }
 
-// The first symbols as sums of those from the eighth on, beside the plain sums.
+// Compares the first symbols, as sums of those from the eighth on, with the plain sums.
 fn compare_sums(rt: &impl Abort, wanted: usize, known: usize, factors: &[Factor])
     requires wanted { wanted ≤ 7 }
     requires known { known ≤ 32 }

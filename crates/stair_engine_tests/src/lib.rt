@@ -1,4 +1,4 @@
-//! Tests of whole calls of `stair` that no scene of `stair_scenes` can say.
+//! Tests of whole calls of `stair` that no scene of `stair_scenes` can express.
 #![tactic(auto)]
 
 #[cfg(test)]

@@ -15,7 +15,8 @@ use std::test::Fail;
 
 // WATCHERS
 
-// What a watcher prints, which can be read as long as it is told, and once it is dropped. There is room for a few lines.
+// The output of a watcher. It can be read while the watcher is in use, and after it is dropped. It has room for a few
+// lines.
 #[derive(Drop)]
 struct Page {
     lines: Rc<RefCell<Vec<u8>>>,
@@ -79,7 +80,7 @@ impl Pages {
     }
 }
 
-// Does a script with these watchers. What the first of them kept is told.
+// Does a script with these watchers. Returns its result, with what the first of them kept.
 fn ran(
     alloc: Global,
     rack: &mut MemRack,
@@ -106,7 +107,7 @@ fn ran(
     })
 }
 
-// What came of a script that was watched.
+// The result of a script with watchers.
 #[derive(Drop)]
 struct Watched {
     came: Came,
@@ -137,8 +138,8 @@ const FIRST: &str = "scrubbed stripe 0 cells 1\n";
 
 const SECOND: &str = "scrubbed stripe 1 cells 1\n";
 
-// The first event is that of line 1, so line 2 isn't done. The watcher of one event is dropped alone: those that are left go on in
-// another script.
+// The first event is that of line 1: line 2 is not done. Only the watcher of one event is dropped; the others continue
+// in another script.
 #[test]
 fn a_script_is_halted_behind_a_line(rt: HostRuntime) -> Result<(), Fail> {
     let alloc = rt.alloc();
@@ -200,7 +201,7 @@ fn with_quota(alloc: Global, line: &str) -> Result<Watched, AllocError> {
     Ok(Watched { came, pages, stay })
 }
 
-// The quota leaves at line 1, and is told of nothing after it. `run` goes on without it, `guard` doesn't.
+// The quota leaves at line 1, and no later event is reported to it. `run` continues without it, `guard` does not.
 #[test]
 fn a_quota_leaves_a_run_and_a_guard(rt: HostRuntime) -> Result<(), Fail> {
     let events = [

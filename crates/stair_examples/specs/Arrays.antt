@@ -34,7 +34,7 @@ new_rack = rack_of zero_words first_edition
 abbrev pub chunk_sector : ℕ
 chunk_sector = cell_sector five 0 0
 
--- the same devices, but that this one holds another cell there
+-- the same devices, except that this one holds another cell there
 abbrev pub with_cell_of : ℕ → Cell → Image
 with_cell_of device cell j = if j == device
     then record (new_rack j) { cell = λ k. if k == chunk_sector then cell else (new_rack j).cell k }
@@ -61,7 +61,8 @@ pub record ExamplesOfEncodes : Type 0 where
 abbrev pub devices_from : ℕ → Image
 devices_from first j = if nat_lt j first then empty_slot else new_rack j
 
--- Two of the devices may be away, and no third one. `IsToleratedAlone` is `IsWithinTolerance` where the empty slots are offline.
+-- Two of the devices may be absent, and no third one. `IsToleratedAlone` is `IsWithinTolerance` if the empty slots are
+-- offline.
 pub record ExamplesOfIsWithinTolerance : Type 0 where
   pub holds : IsToleratedAlone five (devices_from 2)
   pub fails : ¬ IsToleratedAlone five (devices_from 3)
@@ -70,16 +71,17 @@ pub record ExamplesOfIsWithinTolerance : Type 0 where
 abbrev pub made_new : List Happening
 made_new = Made new_rack ∷ []
 
--- then the devices of these slots are pulled, one after the other
+-- then the devices of these slots are pulled, in order
 abbrev pub pulled_of : List ℕ → List Happening
 pulled_of [] = made_new
 pulled_of (j ∷ slots) = Acted j (Pulled (device_of zero_words first_edition j)) ∷ pulled_of slots
 
--- that of slot 0 is pulled and put back
+-- the device of slot 0 is pulled and reinserted
 abbrev pub returned : List Happening
 returned = Acted 0 (InsertedOld 0) ∷ pulled_of (0 ∷ [])
 
--- Of an open array a device may be pulled and put back where media may come back, and not where none may. No three may be pulled.
+-- A device of an open array may be pulled and reinserted if media may be reinserted, and not otherwise. No three may be
+-- pulled.
 pub record ExamplesOfStaysWithinTolerance : Type 0 where
   pub holds : StaysWithinTolerance AnyReturns five true made_new returned
   pub fails : ¬ StaysWithinTolerance NoneReturns five true made_new returned
@@ -87,13 +89,13 @@ pub record ExamplesOfStaysWithinTolerance : Type 0 where
 
 -- REPRESENTING
 
--- A new rack is an array of zeros. It isn't where one cell of a live device has other bytes.
+-- A new rack is an array of zeros. It is not if one cell of a live device has other bytes.
 pub record ExamplesOfRepresents : Type 0 where
   pub holds : Represents (created_state five) (Made new_rack ∷ [])
   pub fails : ¬ Represents (created_state five) (Made (with_cell_of 0 (Good other_bytes)) ∷ [])
 
--- A fence that drops slot 4 was cut, with its epoch, 5, on slot 0 alone. That device is pulled, and a fence of the others drops
--- slot 0. Its epoch is 6 where they drew 5 before, and else 5 again.
+-- A fence of slot 4 was cut, with its epoch, 5, only on slot 0. That device is pulled, and a fence by the others drops
+-- slot 0. Its epoch is 6 if they drew 5 before, and otherwise 5 again.
 pub record ExamplesOfIsConsistentUnderReassembly : Type 0 where
   pub holds : IsConsistentUnderReassembly (without_seats (created_state five))
       (Made (first_pulled (device_of zero_words drawn)) ∷ [])

@@ -22,7 +22,7 @@ use Rattle.stair_examples.specs.Arrays.{chunk_sector, made_new, other_bytes}
 
 -- WHAT A CALL HAS
 
--- a source that is the bytes that are left, and a sink that is those that are held; neither fails
+-- the source is the bytes that are left, and the sink the bytes that it holds; neither fails
 abbrev pub streams : Views (List ℕ) (List ℕ)
 streams = record {
   source = record { left = λ bytes. Some bytes; ended = λ bytes. false; faults = λ bytes. 0 };
@@ -43,7 +43,7 @@ over_history = record {
 abbrev pub closed_session : List Happening → Devices (List Happening) (Unit {0})
 closed_session h = devices h Closed []
 
--- PLANS
+-- PROGRAMS
 
 -- two bytes are taken and put out
 abbrev pub copies_two : Program
@@ -96,7 +96,7 @@ pub record ExamplesOfGoes : Type 0 where
 abbrev pub did : (step : Step) → GivenBy step → List TraceItem
 did step given = Stepped step (Ok given) [] false ∷ []
 
--- it is a run over the new rack, and leaves that as it was
+-- The trace is a run over the new rack, and leaves it as it was.
 abbrev pub IsRunHere : List TraceItem → Type 0
 IsRunHere trace = IsRun over_history NoneReturns made_new holding_zeros trace
     (closed_session made_new) (closed_session made_new)

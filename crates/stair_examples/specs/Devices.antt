@@ -1,4 +1,4 @@
--- A device in slot 0, two sectors of which are written: what a crash may leave, and what it doesn't.
+-- A device in slot 0, two sectors of which are written: what a crash may leave, and what it may not.
 use Rattle.std.specs.Prelude.{ℕ, List, [], ◌∷◌, ◌==◌, Some, if◌then◌else◌, replicate}
 use Rattle.stair_model.specs.Stripe.{SECTOR}
 use Rattle.stair_rack.specs.Crash.{CrashMayLeave}

@@ -15,7 +15,7 @@ use Rattle.stair_reinsert_examples.specs.Refused.{whole_redo}
 
 -- REDOS AND GATES
 
--- a redo of this stripe, of the cells of its one row in these slots
+-- a redo of this stripe, with the cells of its one row in these slots
 abbrev pub redo_of : ℕ → Slots → Redo
 redo_of stripe slots = record {
   stripe = stripe;

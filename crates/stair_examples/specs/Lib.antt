@@ -1,4 +1,4 @@
--- Of each definition what meets it, and what doesn't.
+-- For each definition, what meets it and what does not.
 pub mod Stripes
 pub mod Devices
 pub mod Journals

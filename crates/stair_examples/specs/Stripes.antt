@@ -1,4 +1,4 @@
--- Erased cells of a stripe: some that the code restores, and some that it doesn't.
+-- Erased cells of a stripe: some that the code restores, and some that it does not.
 use Rattle.std.specs.Prelude.{true, false, ◌∷◌, Bool, replicate}
 use Rattle.stair_model.specs.CellSet.{CellSet}
 use Rattle.stair_model.specs.Coverage.{IsCovered}

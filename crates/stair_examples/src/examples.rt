@@ -1,4 +1,4 @@
-//! Of each definition what meets it, and what doesn't.
+//! Laws by example: for each definition what meets it, and what does not.
 
 ghost use Rattle.stair_examples.specs.Arrays.{
   ExamplesOfEncodes,
@@ -24,7 +24,7 @@ ghost use Rattle.stair_examples.specs.Journals.{
 };
 ghost use Rattle.stair_examples.specs.Stripes.{ExamplesOfIsCovered};
 
-/// Stripes and devices. It does nothing.
+/// States examples of stripes and devices. It does nothing.
 pub fn device_laws()
     // which erased cells the code restores
     ensures is_covered { ExamplesOfIsCovered }
@@ -37,23 +37,23 @@ pub fn device_laws()
     ensures membership { ExamplesOfMembership }
 {}
 
-/// Arrays. It does nothing.
+/// States examples of arrays. It does nothing.
 pub fn array_laws()
     // an image that has the stripes
     ensures encodes { ExamplesOfEncodes }
     // what may fail, at a moment and in a session
     ensures is_within_tolerance { ExamplesOfIsWithinTolerance }
     ensures stays_within_tolerance { ExamplesOfStaysWithinTolerance }
-    // a rack that is an array in a state, and one that stays so however its media lie
+    // a rack that is an array in a state, and one that stays an array however its media lie
     ensures represents { ExamplesOfRepresents }
     ensures is_consistent_under_reassembly { ExamplesOfIsConsistentUnderReassembly }
     // a device that was restored from a backup
     ensures is_older_copy { ExamplesOfIsOlderCopy }
 {}
 
-/// Calls. It does nothing.
+/// States examples of calls. It does nothing.
 pub fn call_laws()
-    // a trace that follows a program, and that the outside bears out
+    // a trace that follows a program, and what source and sink must do by it
     ensures means { ExamplesOfExecutes }
     ensures refines_program { ExamplesOfRefinesProgram }
     // an item, a run, and a run that a crash cuts

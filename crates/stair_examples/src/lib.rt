@@ -1,5 +1,7 @@
-//! Instances of the definitions that matter most: of each, a small one that meets it, and one that differs in one point and doesn't.
-//! Its functions are laws, and do nothing.
+//! Examples of the main definitions: for each a small instance that meets it, and one that differs in one point and
+//! does not.
+//!
+//! The functions state laws, and do nothing.
 #![tactic(auto)]
 
 pub mod examples;

@@ -189,7 +189,7 @@ module _ (name : List ℕ) {R W S K : Type 0} (view : DeviceView R W) (streams :
     abbrev before : List Happening
     before = history_of view x
 
-    -- what came of it, where it was a command on volumes
+    -- the result of the call, if it was a command on volumes
     came : (words : List (List ℕ)) (job : VolumeJob) (spells : Spells words (Volume job)) → program ≡ program_of words → (done : List TraceItem) (left : Program) (end : Now)
         → AlongTrace StepsProgram done program left → Runs returning before done (now s before None) end
         → Reached returning before job (spelled_command words job spells) s limits (taken_in done) (put_in done) left end

@@ -25,12 +25,12 @@ use Rattle.stair_volume_lives.specs.Lives.{Began, Begins, Did, IsExplained, IsOf
 
 -- WHAT A CALL IS TO VOLUMES
 
--- no step that the call took, or that came next when it was cut, writes this block
+-- No step that the call took, or that came next when it was cut, writes this block.
 abbrev pub WritesNone : (b : ℕ) → Program → (trace : List TraceItem) → Type 0
 WritesNone b program trace = (done later : List TraceItem) (rest : Program) (step : Step)
     → trace ≡ done ++ later → AlongTrace StepsProgram done program rest → IsNext rest step → ¬ IsWriteOf b step
 
--- so it is of each block of the table and of the volume that the rack holds
+-- The call writes no block of the table or of the volume that the rack holds.
 abbrev pub LeavesBlocks : (name : List ℕ) → Returning → List Happening → Program → (trace : List TraceItem) → Type 0
 LeavesBlocks name returning h program trace = (s : State) (held : Blocks) (b : ℕ)
     → StandsFor returning s h → IsSettled s held
@@ -44,7 +44,7 @@ pub data Kind (name : List ℕ) (returning : Returning) (h : List Happening) (pr
       → Kind name returning h program rest trace
   Leaves : LeavesBlocks name returning h program trace → Kind name returning h program rest trace
 
--- each of these calls is of a kind
+-- Each of these calls is of a kind.
 abbrev pub Kinds : (name : List ℕ) → {R W S K : Type 0} (view : DeviceView R W) (streams : Views S K)
     (returning : Returning) (first : State) (h : List Happening)
     → Calls view streams returning first h → Type 0
@@ -78,7 +78,7 @@ IsCutTurnOf {name} {returning} {h} {program} {rest} {trace} (OnVolumes words job
     × (turn ≡ Began job (taken_in done))
 IsCutTurnOf (Leaves leaves) turn = turn ≡ Other
 
--- one turn a call
+-- one turn for each call
 abbrev pub AreTurnsOf : (name : List ℕ) → {R W S K : Type 0} (view : DeviceView R W) (streams : Views S K)
     (returning : Returning) (first : State) (h : List Happening)
     (calls : Calls view streams returning first h)
@@ -95,7 +95,7 @@ AreTurnsOf name view streams returning first h (Cut c image later program rest o
 
 -- THE LAWS
 
--- what becomes of the volume of this name by these calls
+-- These calls are a life of the volume of this name.
 pub record IsVolumeLife (name : List ℕ) {R W S K : Type 0} (view : DeviceView R W) (streams : Views S K)
     (returning : Returning) (first : State) (h : List Happening)
     (calls : Calls view streams returning first h)
@@ -110,8 +110,9 @@ pub record IsVolumeLife (name : List ℕ) {R W S K : Type 0} (view : DeviceView 
   pub explained : Begins first → (held : Blocks) → IsSettled state held
       → IsExplained name life (without_seats first) held
 
--- Calls one after the other, each whole or cut by a crash, are one life of a volume, and the rack is the array that it leads to,
--- whether media come back or not. Each call is a command on volumes, or writes no block of this one or of the table.
+-- Calls in order, each whole or cut by a crash, are one life of a volume, and the rack is the array that it leads to.
+-- This holds whether media are reinserted or not. Each call is a command on volumes, or writes no block of this volume
+-- or of the table.
 abbrev pub CallsAreLived : (R W S K : Type 0) → Type 0
 CallsAreLived R W S K = (name : List ℕ) (view : DeviceView R W) (streams : Views S K) (returning : Returning)
     (first : State) (h : List Happening) (calls : Calls view streams returning first h)

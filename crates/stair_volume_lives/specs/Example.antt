@@ -45,20 +45,20 @@ cut_write = Began (volume.Write example_name 0 2) (concat new_blocks)
 abbrev pub read_both : (put : List ℕ) → Turn
 read_both put = Did (volume.Read example_name 0 2) [] put
 
--- what it puts out where the write was made, and where it wasn't
+-- what the read puts out, by whether the write was made
 abbrev pub bytes_if : (made : Bool) → List ℕ
 bytes_if made = if made then concat new_blocks else concat (zero_block ∷ zero_block ∷ [])
 
 abbrev pub blocks_if : (made : Bool) → Blocks
 blocks_if made = if made then written_blocks else first_blocks
 
--- In either outcome it is a life of an array that began with nothing in doubt.
+-- Both outcomes are lives of an array that began with nothing in doubt.
 abbrev pub EitherIsLived : Type 0
 EitherIsLived = (made : Bool) → Begins (holding first_blocks)
     × Lives example_name (read_both (bytes_if made) ∷ cut_write ∷ []) (holding first_blocks)
     (holding (blocks_if made))
 
--- A second read gives the same bytes, since the write is settled once.
+-- A second read gives the same bytes, because the write is settled once.
 abbrev pub EachIsReadAgain : Type 0
 EachIsReadAgain = (made : Bool) (put : List ℕ) (now : State)
     → Lives example_name (read_both put ∷ read_both (bytes_if made) ∷ cut_write ∷ []) (holding first_blocks) now

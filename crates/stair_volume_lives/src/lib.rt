@@ -1,4 +1,4 @@
-//! Laws of the volumes of an array over its life. Its functions are laws, and do nothing.
+//! Laws of the volumes of an array over its life. The functions state laws, and do nothing.
 #![tactic(auto)]
 
 pub mod lives;
