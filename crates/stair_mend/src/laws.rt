@@ -1,6 +1,6 @@
 //! Laws of the calls by which the slots of an array are mended one by one, in whatever order its user makes them.
 
-ghost use Rattle.std.specs.Prelude.{◌≡◌, ◌+◌, ◌<◌, ℕ, true, IsTrue, List, Ok, Option, Result};
+ghost use Rattle.std.specs.Prelude.{◌≡◌, ◌+◌, ◌<◌, ℕ, true, IsTrue, List, None, Ok, Option, Result, Some};
 ghost use Rattle.stair_rack.specs.Answers.{IsHistory};
 ghost use Rattle.stair_rack.specs.Crash.{EachImage};
 ghost use Rattle.stair_rack.specs.History.{Happening};
@@ -13,7 +13,8 @@ ghost use Rattle.stair_state.specs.State.{State};
 ghost use Rattle.stair_invariant.specs.Effects.{Snapshot, snapshot};
 ghost use Rattle.stair_invariant.specs.Rebuilding.{Rebuild};
 ghost use Rattle.stair_invariant.specs.Returning.{StaysWithinTolerance, NoneReturns};
-ghost use Rattle.stair_invariant.specs.Session.{ArrayState, Remembered};
+ghost use Rattle.stair_invariant.specs.SeatSteps.{EachMayDrop};
+ghost use Rattle.stair_invariant.specs.Session.{ArrayState, Remembered, seats_in};
 ghost use Rattle.stair_array.specs.Causes.{IsFree, IsNextChunk};
 ghost use Rattle.stair_array.specs.Machine.{Progress, RebuildNext, Refusal};
 ghost use Rattle.stair_array.specs.MendingCalls.{AdmitsSlot};
@@ -50,4 +51,15 @@ pub fn mending_laws()
         IsInState NoneReturns before s (record { told = x; session = Opened (running m rebuild known) }) →
         IsMoment x.history c y.history → StaysWithinTolerance NoneReturns s.geometry true before c →
         EachImage (IsLeftBy NoneReturns RebuildNext m before c s) c }
+    // Once a chunk was written, be it the last one of its slot, the array goes on in its state. Other slots may have been
+    // dropped. The rebuild has come past the chunk, and so any call of the array may come before the promotion.
+    ensures goes_on { (m last : Membership) (rebuild : Option Rebuild) (known : Option Remembered) (j t : ℕ)
+        (x y : RackState) (before : List Happening) (s : State) → IsNextChunk (running m rebuild known) j t →
+        t < m.array.geometry.stripes → WritesNext j t (Ok Done) (snapshot m x) (snapshot last y) →
+        IsTrue y.honest → IsHistory x.history →
+        IsInState NoneReturns before s (record { told = x; session = Opened (running m rebuild known) }) →
+        StaysWithinTolerance NoneReturns s.geometry true before y.history →
+        EachMayDrop (seats_in m.array) (seats_in last.array) ×
+        IsInState NoneReturns before (record s { seats = Some (seats_in last.array) })
+        (record { told = y; session = Opened (running last (Some (record { slot = j; stripe = t + 1 })) None) }) }
 {}

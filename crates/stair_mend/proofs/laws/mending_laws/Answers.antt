@@ -1,10 +1,12 @@
 -- The laws are lemmas.
 use Rattle.std.proofs.Common.{arith, refl}
+use Rattle.std.specs.Prelude.{Ok}
+use Rattle.stair_rack.specs.declared.rack.Reply.TheVariants as reply
 use Rattle.stair_invariant.specs.Returning.{NoneReturns}
 use Rattle.stair_array.specs.Mends.{Rebuilds}
 use Rattle.stair_array.proofs.MendsLeadLemmas.{beside_leads, promotions_lead}
 use Rattle.stair_array.proofs.NoneReturnsLemmas.{reads_lead}
-use Rattle.stair_mend.proofs.ChunkLaws.{chunk_cuts, chunk_step}
+use Rattle.stair_mend.proofs.ChunkLaws.{chunk_cuts, chunk_past, chunk_step}
 use Rattle.stair_mend.proofs.ReplacingLemmas.{admitted}
 use Rattle.stair_mend.proofs.StepLemmas.{next_last}
 use Rattle.stair_mend.proofs.laws.mending_laws.Goals as goal
@@ -18,4 +20,7 @@ returns c = record {
   cut = λ m last rebuild known j t answer x y before s c at below wrote honest history state moment calm.
       chunk_cuts NoneReturns reads_lead beside_leads promotions_lead m last rebuild known j t answer x y before s at below wrote honest history state c
       moment calm;
+  goes_on = λ m last rebuild known j t x y before s at below wrote honest history state calm.
+      chunk_past NoneReturns reads_lead beside_leads promotions_lead m last rebuild known j t (Ok reply.Done) x y before s at below wrote honest history state
+      refl calm;
 }
