@@ -6,7 +6,7 @@ use Rattle.std.proofs.lemmas.List.Elements.{All-from_get_or, All-contains}
 use Rattle.stair_model.specs.CauchyCode.{AreDistinct, AreKnownPlaces}
 use Rattle.stair_mds.specs.Solving.{AreWantedPlaces, Shape}
 
--- a fact of each place from a up to a + n holds of all of them
+-- a fact that holds for each place from a up to a + n holds for all of them
 pub holds_of_range :
     (P : ℕ → Type 0) (a n : ℕ) → ((p : ℕ) → a ≤ p → p < a + n → P p) → All P (range_with_len a n)
 holds_of_range P a n each =
@@ -16,7 +16,7 @@ holds_of_range P a n each =
     let at = get_or-range_with_len a n i 0 in_range in
     each (get_or (range_with_len a n) i 0) (omega (arith, at)) (omega (arith, at, in_range)))
 
--- no place of a range stands in it twice
+-- no place of a range occurs in it twice
 pub range_is_distinct : (a n : ℕ) → AreDistinct (length (range_with_len a n)) (slice_index (range_with_len a n))
 range_is_distinct a n = λ i j hi hj same.
     let count = length-range_with_len a n in

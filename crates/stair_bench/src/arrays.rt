@@ -11,8 +11,8 @@ use std::fs::Files;
 /// How many stripes of an array a round writes. Of eight devices with four rows, that is 64 cells.
 const STRIPES: u64 = 2;
 
-/// Creates an array of the stripes of so many rounds on the image files of the current folder, and gives a check of the gate
-/// and the last sector of its last device.
+/// Creates an array with the stripes of so many rounds on the image files of the current folder. Returns a check of the gate
+/// and of the last sector of its last device.
 pub(crate) fn check_of_creating<F: Files + Drop>(
     rt: F,
     alloc: Global,
@@ -25,7 +25,7 @@ where
     check_of_new_array(&mut rack, rounds)
 }
 
-/// The same on this rack.
+/// Does the same on this rack.
 fn check_of_new_array<R: Rack>(rack: &mut R, rounds: u32) -> Result<u64, Fault> {
     if rounds == 0 {
         return Ok(0);
@@ -45,7 +45,7 @@ pub(crate) fn create_on<R: Rack>(rack: &mut R, geometry: &Geometry) -> Result<()
     create(rack, geometry).map_err(|_| Fault::Image)
 }
 
-/// A check of the gate and the last sector of slot 7.
+/// Returns a check of the gate and of the last sector of slot 7.
 fn check_of_last<R: Rack>(rack: &mut R, geometry: &Geometry) -> Result<u64, Fault> {
     let mut sectors = [[0xA5; SECTOR]; 2];
     for (sector, number) in sectors.iter_mut().zip([GATE_SECTOR, geometry.need() - 1]) {

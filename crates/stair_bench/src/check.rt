@@ -4,12 +4,12 @@ ghost use Rattle.stair_model.specs.Stripe.{IsStripeOf};
 use stair_base::{Geometry, Stripe};
 use stair_mds::Symbols;
 
-/// The hash of no bytes, and what each byte multiplies it by (Fowler, Noll and Vo's FNV-1a, of 64 bits).
+/// The offset basis and the prime of the hash FNV-1a with 64 bits (Fowler, Noll and Vo).
 const OF_NOTHING: u64 = 0xCBF2_9CE4_8422_2325;
 
 const PRIME: u64 = 0x0000_0100_0000_01B3;
 
-/// The hash of what `hash` is the hash of, with these bytes after it.
+/// Returns the hash of the bytes that `hash` is the hash of, followed by these bytes.
 fn hash_on(hash: u64, bytes: &[u8]) -> u64 {
     let mut hash = hash;
     for byte in bytes {
@@ -18,7 +18,7 @@ fn hash_on(hash: u64, bytes: &[u8]) -> u64 {
     hash
 }
 
-/// A check of the bytes of the symbols from place `first` up to place `end`, in order: their FNV-1a hash of 64 bits.
+/// Returns a check of the bytes of the symbols from place `first` up to place `end`, in order: their FNV-1a hash of 64 bits.
 pub(crate) fn check_of(symbols: &Symbols, first: u16, end: u16) -> u64
     requires { end ≤ length symbols.now }
 {
@@ -29,7 +29,7 @@ pub(crate) fn check_of(symbols: &Symbols, first: u16, end: u16) -> u64
     hash
 }
 
-/// The same check of the bytes of all cells of a stripe, row by row.
+/// Returns the same check of the bytes of all cells of a stripe, row by row.
 pub(crate) fn check_of_stripe(geometry: &Geometry, stripe: &Stripe) -> u64
     requires { IsStripeOf geometry.now stripe.now }
 {
@@ -42,7 +42,7 @@ pub(crate) fn check_of_stripe(geometry: &Geometry, stripe: &Stripe) -> u64
     hash
 }
 
-/// The same check of the bytes of these blocks, or of these sealed sectors.
+/// Returns the same check of the bytes of these blocks, or of these sealed sectors.
 pub(crate) fn check_of_blocks<const N: usize>(blocks: &[[u8; N]]) -> u64 {
     let mut hash = OF_NOTHING;
     for block in blocks {

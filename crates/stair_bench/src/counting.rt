@@ -8,12 +8,12 @@ use std::fmt;
 pub(crate) struct Calls {
     writes: u64,
     syncs: u64,
-    /// Writes of a sector that doesn't lie after the one that was written before it, to the same slot since it was synced.
+    /// Writes of a sector that isn't after the last one written to the same slot since it was synced.
     backward: u64,
 }
 
 impl Calls {
-    /// Counts a write of this sector, before which that one was written.
+    /// Counts a write of this sector, after that one.
     fn add_write(&mut self, sector: u32, before: Option<u32>) {
         self.writes = self.writes.wrapping_add(1);
         if before.is_some_and(|before| sector <= before) {
@@ -33,12 +33,12 @@ impl fmt::Display for Calls {
     }
 }
 
-/// A rack that counts them, and answers as its inner one.
+/// A rack that counts these calls, and answers as its inner one.
 #[derive(Drop)]
 pub(crate) struct Counting<R: Rack> {
     rack: R,
     calls: Calls,
-    // The sector of each slot that was written last, since it was synced.
+    // For each slot, the last sector written since it was synced.
     last: [Option<u32>; 32],
 }
 

@@ -11,10 +11,10 @@ use stair_gf::Steps;
 use std::alloc::{AllocError, Global};
 use std::sync::ledger::{Blank, Ledger};
 
-/// What stands in each parity before the first round.
+/// The bytes of each parity before the first round.
 pub(crate) const BEFORE: [u8; SECTOR] = [0xA5; SECTOR];
 
-/// Encodes a stripe so many times, and gives a check of all its cells.
+/// Encodes a stripe so many times, and returns a check of all its cells.
 pub(crate) fn check_of_encoding<L: Ledger>(
     alloc: Global,
     by: By,
@@ -53,7 +53,7 @@ fn encode_rounds<L: Ledger, C: StripeCode>(
     }
 }
 
-/// Encodes a stripe once, sets its middle block to the same other bytes so many times, and gives a check of all its cells.
+/// Encodes a stripe once, sets its middle block to the same other bytes so many times, and returns a check of all its cells.
 pub(crate) fn check_of_updating<L: Ledger>(
     alloc: Global,
     geometry: &Geometry,
@@ -94,7 +94,7 @@ fn update_rounds<L: Ledger, C: StripeCode>(
     }
 }
 
-/// Where the middle block of the array lies.
+/// Returns the location of the middle block of the array.
 pub(crate) fn middle_block(geometry: &Geometry) -> Place
     ensures row_in { result.row < geometry.now.r }
     ensures slot_in { result.slot < geometry.now.n }
@@ -104,7 +104,7 @@ pub(crate) fn middle_block(geometry: &Geometry) -> Place
     geometry.place_of(geometry.blocks() / 2)
 }
 
-/// Copies all data cells of a stripe, so many times, and gives a check of the copies.
+/// Copies all data cells of a stripe so many times, and returns a check of the copies.
 pub(crate) fn check_of_copying_cells(
     alloc: Global,
     geometry: &Geometry,
@@ -118,7 +118,7 @@ pub(crate) fn check_of_copying_cells(
     Ok(check_of_blocks(&copies))
 }
 
-/// A stripe whose data cells vary, each with its number, row by row through all cells.
+/// Returns a stripe whose data cells vary with their numbers among all cells, row by row.
 pub(crate) fn varied_stripe(alloc: Global, geometry: &Geometry) -> Result<Stripe, AllocError>
     ensures { IfOk result (λ stripe. IsStripeOf geometry.now stripe) }
 {
@@ -135,7 +135,7 @@ pub(crate) fn varied_stripe(alloc: Global, geometry: &Geometry) -> Result<Stripe
     Ok(stripe)
 }
 
-/// The data cells of that stripe, row by row.
+/// Returns the data cells of that stripe, row by row.
 fn varied_blocks(alloc: Global, geometry: &Geometry) -> Result<Vec<[u8; SECTOR]>, AllocError> {
     let mut blocks = Vec::with_capacity(alloc, usize::from(geometry.u()))?;
     for row in 0..geometry.r() {
@@ -148,7 +148,7 @@ fn varied_blocks(alloc: Global, geometry: &Geometry) -> Result<Vec<[u8; SECTOR]>
     Ok(blocks)
 }
 
-/// The number of a cell among all cells of a stripe, row by row.
+/// Returns the number of a cell among all cells of a stripe, row by row.
 fn cell_number(geometry: &Geometry, row: u8, slot: u8) -> u16
     requires row_in { row < geometry.now.r }
     requires slot_in { slot < geometry.now.n }

@@ -1,16 +1,16 @@
 use std::alloc::AllocError;
 use std::fmt;
 
-/// Why nothing, or not all, was printed.
+/// Why the program printed nothing, or not everything.
 #[derive(Clone, Copy)]
 pub(crate) enum Fault {
-    /// The words name no kernel and number of rounds.
+    /// The arguments are not a kernel and a number of rounds.
     Usage,
     /// Standard output failed.
     Output,
     /// The image file couldn't be opened, read, written or synced, or a sector of it couldn't be read.
     Image,
-    /// There was no memory.
+    /// Out of memory.
     OutOfMemory,
 }
 

@@ -5,7 +5,7 @@ use crate::writes::Part;
 use stair_codec::By;
 use std::fmt;
 
-/// A code with n devices, m row parities and one more parity in each row, all of which are worked out.
+/// A code with n devices, m row parities and one more parity in each row. All parities are computed.
 #[derive(Clone, Copy)]
 pub(crate) struct Code {
     pub(crate) n: u8,
@@ -68,18 +68,18 @@ impl Devices {
     }
 }
 
-/// What is done with a stripe.
+/// Work on a stripe.
 #[derive(Clone, Copy)]
 pub(crate) enum StripeWork {
-    /// All its parities, from its data cells.
+    /// Computes all its parities from its data cells.
     Encode(By),
-    /// The cells of the worst pattern that is covered, always of the same chunks.
+    /// Restores the cells of the worst covered pattern, always in the same chunks.
     Restore,
-    /// The same cells of other chunks in each round.
+    /// Restores the same cells, in other chunks in each round.
     RestoreInTurn,
-    /// Its middle block, when it is encoded, set to other bytes.
+    /// Sets the middle block of the encoded stripe to other bytes.
     Update,
-    /// A copy of the data cells that those are encoded from.
+    /// Copies the data cells that the parities are encoded from.
     CopyCells,
 }
 
@@ -95,20 +95,20 @@ impl StripeWork {
     }
 }
 
-/// What is done with image files.
+/// Work on image files.
 #[derive(Clone, Copy)]
 pub(crate) enum FileWork {
-    /// The sectors that are sealed in memory, written and then synced.
+    /// Seals sectors in memory, writes them and then syncs.
     WriteSectors,
-    /// The same sectors, read.
+    /// Reads the same sectors.
     ReadSectors,
-    /// A sector, written to each device of an array.
+    /// Writes a sector to each device of an array.
     WriteAll(Devices),
-    /// A new array.
+    /// Creates an array.
     CreateArray,
-    /// The middle block of a stripe, set to other bytes by a redo.
+    /// Sets the middle block of a stripe to other bytes by a redo.
     Redo(Layout),
-    /// Blocks of a stripe of an array.
+    /// Writes blocks of a stripe of an array.
     WriteBlocks(Part, Layout),
 }
 
@@ -137,7 +137,7 @@ pub(crate) enum Kernel {
     CopySymbols(Row),
     /// Work on a stripe.
     Stripe(StripeWork, Layout),
-    /// Sectors of an image file, sealed one after the other.
+    /// Sectors of an image file, sealed one by one.
     SealSectors,
     /// The same sectors, sealed eight at a time.
     SealSectorsByEight,
@@ -181,7 +181,7 @@ pub(crate) static IN_MEMORY: [Kernel; 32] = [
     Kernel::SealSectorsByEight,
 ];
 
-/// Those over image files.
+/// The kernels over image files.
 static OVER_FILES: [Kernel; 9] = [
     Kernel::Files(FileWork::WriteSectors),
     Kernel::Files(FileWork::ReadSectors),
@@ -208,13 +208,13 @@ impl Kernel {
         }
     }
 
-    /// The kernel of this name.
+    /// Returns the kernel of this name.
     pub(crate) fn named(name: &str) -> Option<Kernel> {
         named_of(&IN_MEMORY, name).or(named_of(&OVER_FILES, name))
     }
 }
 
-/// The first of these kernels that has this name.
+/// Returns the first of these kernels that has this name.
 fn named_of(kernels: &[Kernel], name: &str) -> Option<Kernel> {
     for kernel in kernels {
         if is_pair(name, kernel.words()) {
@@ -234,7 +234,7 @@ fn name_of(by: By) -> &'static str {
     }
 }
 
-/// Whether the name is these words, with a hyphen between them.
+/// Returns whether the name is these words, joined by hyphens.
 fn is_pair(name: &str, words: (&str, &str)) -> bool {
     let (first, second) = words;
     match name.strip_prefix(first) {

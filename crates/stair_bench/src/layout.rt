@@ -33,7 +33,7 @@ impl Layout {
     }
 }
 
-/// The geometry of these numbers, which are within the limits.
+/// Returns the geometry of these numbers, which are within the limits.
 fn geometry(n: u64, m: u64, r: u64, coverage: &[u64]) -> Geometry
     requires { IsWithinLimits (geometry_of n m r coverage.now 1 (replicate 16 0)) }
 {

@@ -1,4 +1,4 @@
-//! `stair_bench [KERNEL ROUNDS]`: runs a kernel so many times, or one small round of each, and prints what it made.
+//! `stair_bench [KERNEL ROUNDS]`: runs a kernel so many times, or one small round of each, and prints a check of the result.
 #![tactic(auto)]
 
 mod arrays;
@@ -22,14 +22,14 @@ use rounds::{Made, make_rounds};
 use std::process::ExitCode;
 use std::{env, io};
 
-/// What the words ask for.
+/// What the arguments ask for.
 #[derive(Clone, Copy)]
 enum Request {
     OneRoundOfEach,
     Rounds { kernel: Kernel, rounds: u32 },
 }
 
-/// Reads the words after the program's name. Words that are no text are a faulty command line.
+/// Reads the arguments after the program's name. An argument that is not UTF-8 text is a faulty command line.
 fn read_request(rt: &HostRuntime) -> Result<Request, Fault> {
     let words = words_given(rt)?;
     request_of(&words)
@@ -43,7 +43,7 @@ fn words_given(rt: &HostRuntime) -> Result<Vec<String>, Fault> {
     }
 }
 
-/// What these words ask for.
+/// Returns what these arguments ask for.
 fn request_of(words: &[String]) -> Result<Request, Fault> {
     match words {
         [] => Ok(Request::OneRoundOfEach),
@@ -59,7 +59,7 @@ fn rounds_of(name: &str, count: &str) -> Result<Request, Fault> {
     Ok(Request::Rounds { kernel, rounds })
 }
 
-/// Runs the rounds of a kernel, and prints its name, the check of what it made, and the calls of redos.
+/// Runs the rounds of a kernel, and prints its name, the check of its result, and the calls of redos.
 fn print_made(rt: &HostRuntime, kernel: Kernel, rounds: u32) -> Result<(), Fault> {
     let printed = match make_rounds(rt, rt.alloc(), kernel, rounds)? {
         Made::Check(check) => print_check(rt, kernel, check),
@@ -92,7 +92,7 @@ fn main(rt: HostRuntime) -> ExitCode {
     match run(&rt) {
         Ok(()) => ExitCode::SUCCESS,
         Err(fault) => {
-            // Where standard error can't be written, the exit status still tells.
+            // If standard error can't be written, the exit status still has the cause.
             let _ = eprintln!(rt; "{fault}");
             ExitCode::from(fault.code())
         }

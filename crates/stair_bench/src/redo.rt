@@ -20,8 +20,8 @@ use std::alloc::Global;
 use std::fs::Files;
 use std::sync::ledger::{Blank, Ledger};
 
-/// Places an encoded stripe on the image files of the current folder and sets its middle block to other bytes so many times,
-/// each time by a redo of the block's dependents. Gives a check of the stripe as it is read back, and the calls of these redos.
+/// Writes an encoded stripe to the image files of the current folder, and sets its middle block to other bytes so many times,
+/// each time by a redo of the block's dependents. Returns a check of the stripe as read back, and the calls of these redos.
 pub(crate) fn check_of_redoing<F: Files + Drop, L: Ledger>(
     rt: F,
     alloc: Global,
@@ -98,7 +98,7 @@ fn place_encoded<R: Rack, C: StripeCode, L: Ledger>(
     redo_once(rack, geometry, live, geometry.cells(), stripe)
 }
 
-/// Sets the stripe's middle block to other bytes, and gives the cells that change with it.
+/// Sets the stripe's middle block to other bytes, and returns the cells that change with it.
 fn update_middle<C: StripeCode, L: Ledger>(
     geometry: &Geometry,
     code: &mut C,
@@ -115,8 +115,8 @@ fn update_middle<C: StripeCode, L: Ledger>(
     code.dependents(middle.row, middle.slot)
 }
 
-/// Changes these cells of stripe 0 to those of `stripe` so many times, each time by a redo. Gives the check of the stripe as it
-/// is read back, and the calls of the redos.
+/// Changes these cells of stripe 0 to those of `stripe` so many times, each time by a redo. Returns the check of the stripe as
+/// read back, and the calls of the redos.
 fn check_of_redos<R: Rack + Drop>(
     rack: R,
     alloc: Global,
@@ -161,7 +161,7 @@ fn redo_once<R: Rack>(
     }
 }
 
-/// Writes the body of a redo. Whether no slot was gone.
+/// Writes the body of a redo. Returns whether no slot was gone.
 fn writes_body<R: Rack>(
     rack: &mut R,
     geometry: &Geometry,
@@ -175,14 +175,14 @@ fn writes_body<R: Rack>(
     write_body(rack, geometry, live, redo, stripe).count() == 0
 }
 
-/// Opens the gates for a redo. Whether no slot was gone.
+/// Opens the gates for a redo. Returns whether no slot was gone.
 fn opens_gates<R: Rack>(rack: &mut R, geometry: &Geometry, live: Slots, redo: &Redo) -> bool
     requires { IsRedo geometry.now redo.now }
 {
     open_gates(rack, live, geometry, redo).count() == 0
 }
 
-/// Places the cells of a redo. Whether no slot was gone.
+/// Writes the cells of a redo. Returns whether no slot was gone.
 fn places_cells<R: Rack>(
     rack: &mut R,
     geometry: &Geometry,
@@ -196,12 +196,12 @@ fn places_cells<R: Rack>(
     place(rack, geometry, live, redo, stripe).count() == 0
 }
 
-/// Closes the gates. Whether no slot was gone.
+/// Closes the gates. Returns whether no slot was gone.
 fn closes_gates<R: Rack>(rack: &mut R, live: Slots) -> bool {
     close_gates(rack, live).count() == 0
 }
 
-/// A check of stripe 0 as it is read.
+/// Returns a check of stripe 0 as read.
 fn check_of_gathering<R: Rack>(
     rack: &mut R,
     alloc: Global,

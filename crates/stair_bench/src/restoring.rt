@@ -10,8 +10,8 @@ use stair_gf::Steps;
 use std::alloc::{AllocError, Global};
 use std::sync::ledger::{Blank, Ledger};
 
-/// Restores an encoded stripe so many times, from one pattern after another of so many, and gives a check of all its cells,
-/// or 0 where one wasn't covered.
+/// Restores an encoded stripe so many times, from so many patterns in turn. Returns a check of all its cells, or 0 if a
+/// pattern wasn't covered.
 pub(crate) fn check_of_restoring<L: Ledger>(
     alloc: Global,
     geometry: &Geometry,
@@ -60,7 +60,7 @@ fn check_of_patterns<L: Ledger>(
     })
 }
 
-/// Encodes this stripe, and restores it so many times, from one of these patterns after another. Whether all were covered.
+/// Encodes this stripe, and restores it so many times, from these patterns in turn. Returns whether all were covered.
 fn restore_rounds<L: Ledger, C: StripeCode>(
     geometry: &Geometry,
     code: &mut C,
@@ -88,7 +88,7 @@ fn restore_rounds<L: Ledger, C: StripeCode>(
     are_covered
 }
 
-/// The worst patterns whose whole chunks begin with the first so many slots.
+/// Returns the worst patterns whose whole chunks begin at the first so many slots.
 fn worst_patterns(alloc: Global, geometry: &Geometry, count: u8) -> Result<Vec<CellSet>, AllocError>
     requires { count ≤ geometry.now.n }
     ensures count { IfOk result (λ patterns. length patterns.items ≡ count) }
@@ -101,8 +101,8 @@ fn worst_patterns(alloc: Global, geometry: &Geometry, count: u8) -> Result<Vec<C
     Ok(patterns)
 }
 
-/// The covered pattern that takes the most steps: m whole chunks from this one on, and of the chunks after them as many last
-/// sectors as the coverage vector says.
+/// Returns the covered pattern that takes the most steps: m whole chunks from this one on, and in the chunks after them as many
+/// last sectors as the coverage vector says.
 fn worst_pattern(geometry: &Geometry, first: u8) -> CellSet
     requires { first < geometry.now.n }
     ensures { IsInStripe geometry.now result }

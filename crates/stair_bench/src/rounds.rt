@@ -27,7 +27,7 @@ use std::fs::Files;
 use std::marker::Brand;
 use std::sync::ledger::{Blank, Ledger};
 
-/// What rounds of a kernel made.
+/// The result of rounds of a kernel.
 pub(crate) enum Made {
     /// Something with this check.
     Check(u64),
@@ -63,7 +63,7 @@ where
     }
 }
 
-/// A check of so many rounds of this work on a stripe.
+/// Returns a check of so many rounds of this work on a stripe.
 fn check_of_stripe_work(
     alloc: Global,
     work: StripeWork,
@@ -117,24 +117,24 @@ where
     }
 }
 
-/// What was made in memory, which may be lacking.
+/// Returns the result of work in memory, or out of memory.
 fn made_in_memory(check: Result<u64, AllocError>) -> Result<Made, Fault> {
     Ok(Made::Check(check?))
 }
 
-/// What was made on image files.
+/// Returns the result of work on image files.
 fn made_on_files(check: Result<u64, Fault>) -> Result<Made, Fault> {
     Ok(Made::Check(check?))
 }
 
-/// What was made by calls on image files.
+/// Returns the result of calls on image files.
 fn made_by_calls(made: Result<(u64, Calls), Fault>) -> Result<Made, Fault> {
     let (check, calls) = made?;
     Ok(Made::Redone(check, calls))
 }
 
-/// Adds multiples of a symbol to another, by each byte in turn, so many times, and one more that makes all of them together
-/// twice that symbol.
+/// Adds multiples of a symbol to another, by each byte in turn, so many times. Adds one more multiple, with which all of them
+/// sum to twice that symbol.
 fn check_of_adding(rounds: u32) -> u64 {
     let from = varied(1);
     let mut into = [0; SECTOR];
@@ -205,7 +205,7 @@ fn check_of_copying(alloc: Global, code: Code, rounds: u32) -> Result<u64, Alloc
     Ok(check_of(&into, 0, held))
 }
 
-/// The places from `first` up to `end`.
+/// Returns the places from `first` up to `end`.
 fn places(alloc: Global, first: u16, end: u16) -> Result<Vec<u16>, AllocError>
     requires { first ≤ end }
     ensures { IfOk result (λ places. places.items ≡ range_with_len first (end - first)) }
@@ -213,7 +213,7 @@ fn places(alloc: Global, first: u16, end: u16) -> Result<Vec<u16>, AllocError>
     (first..end).collect(alloc)
 }
 
-/// The symbols of a code: the bytes of held symbol p are those that vary with number p, and all others are zero.
+/// Returns the symbols of a code: the bytes of held symbol p vary with number p, and all others are zero.
 fn symbols_of(alloc: Global, held: u16, total: u16) -> Result<Symbols, AllocError>
     requires within { held ≤ total }
     requires few { total ≤ 256 }

@@ -14,7 +14,7 @@ use std::fs::Files;
 /// How many sectors a round seals, writes or reads.
 const SECTORS: u16 = 64;
 
-/// Seals sectors that vary under their numbers, so many times, and gives a check of them.
+/// Seals sectors that vary under their numbers, so many times, and returns a check of them.
 pub(crate) fn check_of_sealing(alloc: Global, rounds: u32) -> Result<u64, AllocError> {
     let sectors = varied_sectors(alloc)?;
     let mut sealed = vec![in alloc; [0; SEALED_SECTOR]; usize::from(SECTORS)]?;
@@ -49,7 +49,7 @@ pub(crate) fn check_of_sealing_by_eight(alloc: Global, rounds: u32) -> Result<u6
     Ok(check_of_blocks(&sealed))
 }
 
-/// Writes sectors that vary to the image file of slot 0 in the current folder, so many times, syncs it, and gives a check of
+/// Writes sectors that vary to the image file of slot 0 in the current folder, so many times, and syncs it. Returns a check of
 /// what was written.
 pub(crate) fn check_of_writing<F: Files + Drop>(
     rt: F,
@@ -87,7 +87,7 @@ fn write_sectors<R: Rack>(
     Ok(())
 }
 
-/// Reads the sectors of that file so many times, and gives a check of what was read.
+/// Reads the sectors of that file so many times, and returns a check of what was read.
 pub(crate) fn check_of_reading<F: Files + Drop>(
     rt: F,
     alloc: Global,
@@ -122,7 +122,7 @@ fn read_sectors<R: Rack>(
 }
 
 /// Writes one sector to the image files of so many slots in the current folder, so many times, each time under the next
-/// number, syncs them, and gives a check of what the last slot has.
+/// number, and syncs them. Returns a check of what the last slot has.
 pub(crate) fn check_of_writing_all<F: Files + Drop>(
     rt: F,
     alloc: Global,
@@ -162,12 +162,12 @@ fn write_to_all<R: Rack>(rack: &mut R, devices: u8, rounds: u32) -> Result<u64, 
     Ok(check_of_blocks(&[sector]))
 }
 
-/// Whether this sector was written under this number to all of these slots.
+/// Returns whether this sector was written under this number to all of these slots.
 fn is_written<R: Rack>(rack: &mut R, live: Slots, number: u32, sector: &[u8; SECTOR]) -> bool {
     write_all(rack, live, number, sector).count() == 0
 }
 
-/// Whether all of these slots were synced, and then the sector of this number was read of that slot.
+/// Returns whether all of these slots were synced, and then the sector of this number was read of that slot.
 fn is_kept<R: Rack>(
     rack: &mut R,
     live: Slots,
@@ -180,7 +180,7 @@ fn is_kept<R: Rack>(
     sync_all(rack, live).count() == 0 && rack.read(slot, number, into) == Got::Good
 }
 
-/// Attaches so many slots, and gives them.
+/// Attaches so many slots, and returns them.
 pub(crate) fn attach_first<R: Rack>(rack: &mut R, devices: u8) -> Result<Slots, Fault>
     requires { devices ≤ 32 }
 {

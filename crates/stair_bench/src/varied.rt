@@ -2,7 +2,7 @@ ghost use Rattle.std.specs.Prelude.{◌<◌};
 
 use stair_base::SECTOR;
 
-/// Bytes that vary: byte q of number p is (31·p + 7·q + 1) mod 251.
+/// Returns bytes that vary: byte q of number p is (31·p + 7·q + 1) mod 251.
 pub(crate) fn varied(number: u16) -> [u8; SECTOR]
     requires { number < 1024 }
 {

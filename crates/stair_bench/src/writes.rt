@@ -23,7 +23,7 @@ pub(crate) enum Part {
     Block,
     /// All blocks of the first stripe, as one step.
     Stripe,
-    /// The same blocks, one after the other.
+    /// The same blocks, one by one.
     EachBlock,
 }
 
@@ -37,8 +37,8 @@ impl Part {
     }
 }
 
-/// Creates an array on the image files of the current folder, opens it, and writes this part of it so many times. Gives a check
-/// of the blocks of its first stripe as they are read back, and the calls of these writes.
+/// Creates an array on the image files of the current folder, opens it, and writes this part of it so many times. Returns a
+/// check of the blocks of its first stripe as read back, and the calls of these writes.
 pub(crate) fn check_of_block_writes<F: Files + Drop>(
     rt: F,
     alloc: Global,
@@ -95,7 +95,7 @@ fn open_on<R: Rack, C: StripeCode>(
     Array::recover(alloc, rack, member, code).map_err(|_| Fault::Image)
 }
 
-/// Writes this part of the array so many times, and gives the check of its first stripe and the calls.
+/// Writes this part of the array so many times, and returns the check of its first stripe and the calls.
 fn check_of_writes<R: Rack + Drop, C: StripeCode>(
     alloc: Global,
     rack: R,
@@ -154,7 +154,7 @@ fn write_middle<R: Rack, C: StripeCode>(
     }
 }
 
-/// Writes these blocks of the first stripe as one step, where they are all of it.
+/// Writes these blocks of the first stripe as one step, if they are all of its blocks.
 fn write_stripe<R: Rack, C: StripeCode>(
     array: &mut Array<C>,
     rack: &mut R,
@@ -167,7 +167,7 @@ fn write_stripe<R: Rack, C: StripeCode>(
     }
 }
 
-/// Writes these blocks of the first stripe, one after the other.
+/// Writes these blocks of the first stripe, one by one.
 fn write_each<R: Rack, C: StripeCode>(
     array: &mut Array<C>,
     rack: &mut R,
@@ -213,7 +213,7 @@ fn read_block<R: Rack, C: StripeCode>(
     array.read(rack, number, into)
 }
 
-/// So many blocks, each of bytes that vary with its number.
+/// Returns so many blocks, each of bytes that vary with its number.
 fn varied_blocks(alloc: Global, count: u16) -> Result<Vec<[u8; SECTOR]>, AllocError> {
     let mut blocks = Vec::with_capacity(alloc, usize::from(count))?;
     for number in 0..count {

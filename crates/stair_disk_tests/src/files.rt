@@ -152,7 +152,7 @@ fn files_with_a_fault(rt: HostRuntime) -> Result<(), Fail> {
     Ok(())
 }
 
-// Errors that tell of the caller and of the device, by their numbers and their names in Linux.
+// Which errors are the caller's and which the device's, by their numbers and their names in Linux.
 #[test]
 fn reasons_of_callers_and_of_devices(rt: HostRuntime) {
     for (number, is_callers) in [

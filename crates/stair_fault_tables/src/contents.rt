@@ -78,7 +78,7 @@ pub(crate) fn read_all(alloc: Global, rack: &mut MemRack) -> Result<Option<Block
     Ok(fillings_of(&came.put).map(|fillings| Blocks::new(&fillings, came.told)))
 }
 
-/// Whether all blocks are read, are these, and this is told.
+/// Returns whether all blocks are read, are these, and exactly this is reported.
 pub(crate) fn reads(
     alloc: Global,
     rack: &mut MemRack,
@@ -88,7 +88,7 @@ pub(crate) fn reads(
     Ok(read_all(alloc, rack)? == Some(Blocks::new(fillings, told)))
 }
 
-/// Whether all blocks are these, also in a second call after a crash, and nothing is told.
+/// Returns whether all blocks are these, also in a second call after a crash, and nothing is reported.
 pub(crate) fn holds(alloc: Global, rack: MemRack, fillings: &Fillings) -> Result<bool, AllocError> {
     let mut rack = rack;
     if !reads(alloc, &mut rack, fillings, NOTHING_TOLD)? {

@@ -73,7 +73,7 @@ fn is_done(alloc: Global, at: u32, what: What) -> Result<bool, AllocError> {
     match what {
         What::Pull { slot } | What::PullLosing { slot } => Ok(once == Some(fenced(slot))),
         _ => {
-            // beside a damaged cell a whole device may be lost
+            // in addition to a damaged cell a whole device may be lost
             let mut rack = restarted(alloc, rack, &[act(0, What::Pull { slot: 1 })])?;
             Ok(once == Some(NOTHING_TOLD) && reads(alloc, &mut rack, &all, fenced(1))?)
         }

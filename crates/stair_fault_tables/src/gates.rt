@@ -7,7 +7,7 @@ use stair_engine::Status;
 use stair_memrack::{Act, MemRack, What};
 use std::alloc::{AllocError, Global};
 
-// The sector of the gate, and the bytes of it that tell of the stripe at the end of its number, and of the first eight cells.
+// The sector of the gate, the last byte of its stripe number, and the byte that has the first eight cells.
 const GATE: u32 = 2;
 
 const STRIPE: usize = 15;
@@ -38,7 +38,7 @@ fn byte_at(place: usize) -> u8 {
     }
 }
 
-// Whether the write that was stopped never was where this byte stands in each gate, and was where it stands in all but one of them.
+// Whether the stopped write is undone if this byte is in every gate, and is done if it is in all gates but one.
 fn is_closed_by(alloc: Global, place: usize, byte: u8) -> Result<bool, AllocError> {
     let mut rack = with_open_gates(alloc, &[])?;
     let mut is_put = true;

@@ -36,8 +36,8 @@ fn read_extent(rt: &HostRuntime) -> Result<Extent, Fault> {
     }
 }
 
-/// Prints what came of a part of a table: over how many calls it goes, or how many cases there were, and how many were wrong; where the
-/// whole of it was tried also how many cases there were at these calls. Answers whether all were right.
+/// Prints the result of a part of a table: its number of calls or of cases, and how many cases were wrong. If the whole table was
+/// tried, it also prints how many cases there were at these calls. Returns whether all were right.
 fn print_part(rt: &HostRuntime, extent: Extent, part: Part) -> Result<bool, Fault> {
     match extent {
         Extent::Whole if part.goes_over_calls() => println!(rt; "{part}, {} cases", part.cases()),

@@ -51,7 +51,7 @@ impl Turn {
         self.back > look_at(self.slot())
     }
 
-    // The rack after the write, where that is done and told of the slot just where it missed it; the slot is put back by then or
+    // The rack after the write, if the write is done and reported the slot exactly if it missed it. The slot is put back by then or
     // before a call of the next opening.
     fn written(self, alloc: Global) -> Result<Option<MemRack>, AllocError> {
         let (slot, pull) = pull_by(self.number);
@@ -70,8 +70,8 @@ impl Turn {
         Ok(Some(restarted(alloc, rack, &[act(self.back, back)])?))
     }
 
-    // Whether both end as they should: the blocks are read as they were written, the slot is told of once, by the call that missed it,
-    // and is down then; where neither did it is live, and another one may be lost.
+    // Whether both end as they should: the blocks are read as they were written. The call that missed the slot reports it once, and
+    // the slot is down then. If neither missed it, it is live, and another one may be lost.
     fn is_right(self, alloc: Global) -> Result<bool, AllocError> {
         let Some(rack) = self.written(alloc)? else {
             return Ok(false);

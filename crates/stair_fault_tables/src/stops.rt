@@ -104,7 +104,7 @@ impl Work {
         }
     }
 
-    // The rack after it, and what came of it, where it stops before this call.
+    // The rack after the command, and its result, if it stops before this call.
     fn stopped(self, alloc: Global, at: u32) -> Result<(MemRack, Came), AllocError> {
         let mut rack = self.rack(alloc, at)?;
         let input = self.input(alloc)?;
@@ -230,7 +230,7 @@ const NEWEST: u32 = 1;
 
 const TORN: u32 = 9;
 
-// Cases by their numbers: below these stand the sectors that are newest alone, and the last one is that all of those were found.
+// Cases by their numbers: smaller numbers are sectors of which one alone is newest. The last case is that all of those were found.
 const ALL_OLD: u32 = 1000;
 
 const ALL_NEWEST: u32 = 1001;

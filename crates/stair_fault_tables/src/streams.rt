@@ -85,7 +85,7 @@ fn contents(command: Command, fault: Fault, place: Place) -> Fillings {
     }
 }
 
-// How much of its output of so many bytes stands.
+// How much of its output of so many bytes was put out.
 fn count_put(
     alloc: Global,
     command: Command,

@@ -147,8 +147,8 @@ const CHANGED: u8 = 2;
 
 const ENTRIES: usize = 96;
 
-// What is so of the slot once this byte of both its superblocks is changed to this other one. Beside what is said of a field, slot
-// 0 has the current superblock, which says that all slots are live; and one slot alone makes no other array stand.
+// The state of the slot once this byte of both its superblocks is changed to this other one. In addition to what is said of a
+// field, slot 0 has the current superblock, which says that all slots are live. One slot alone is not enough for another array.
 fn reason(version: Version, place: u32, byte: u8) -> Why {
     let other_array = |is_within: bool| if is_within {
         Why::OtherArray
@@ -229,7 +229,7 @@ fn others(byte: u8, extent: Extent) -> [u8; 255] {
     others
 }
 
-// Whether the array is shown as it should be once this byte stands at this place of both superblocks of a slot, which had another one.
+// Whether the array is shown as it should be once this place of both superblocks of a slot, which had another byte, has this one.
 fn is_changed(
     alloc: Global,
     rack: &mut MemRack,
@@ -256,7 +256,7 @@ fn is_read(alloc: Global, rack: MemRack, why: Why) -> Result<bool, AllocError> {
     holds(alloc, restarted(alloc, rack, &[])?, &[0; 15])
 }
 
-// The case of a place, beside its bytes by their numbers, in which the array is opened.
+// The case of a place in which the array is opened. The other cases of the place are its bytes, by their numbers.
 const OPENED: u32 = 1000;
 
 // Tries other bytes at a place.

@@ -87,7 +87,7 @@ impl Tally {
     }
 }
 
-/// What came of a part of a table.
+/// The result of a part of a table.
 #[derive(Clone, Copy)]
 pub(crate) struct Part {
     name: &'static str,

@@ -9,7 +9,7 @@ use stair_rack::{Event, EventKind, MemSink, Watcher};
 use stair_watch::{Kept, Tally, add};
 use std::alloc::{AllocError, Global};
 
-/// A call of `stair`: its words, its input, how its streams behave, and who else watches it.
+/// A call of `stair`: its command line, its input, how its streams behave, and its other watchers.
 #[derive(Drop)]
 pub(crate) struct Call {
     pub(crate) words: Vec<String>,

@@ -3,7 +3,7 @@ use crate::fault::{Fault, said};
 use crate::numbers::read_number;
 use std::alloc::{AllocError, Global};
 
-/// A word of a line: a text in quotes and what follows its end, or what stands between blanks.
+/// A word of a line: a text in quotes and what follows its end, or the letters between blanks.
 #[derive(Drop)]
 pub(crate) struct Part {
     pub(crate) text: String,
@@ -45,7 +45,7 @@ pub(crate) fn parts_of(alloc: Global, line: &str) -> Result<Vec<Part>, Fault> {
     Ok(parts)
 }
 
-// Reads a letter of a part: where the next one stands.
+// Reads a letter of a part, and returns the place of the next one.
 fn step(place: Place, letter: char, part: &mut Part) -> Result<Place, AllocError> {
     Ok(match (place, letter) {
         (Place::Between | Place::Plain | Place::Suffix, ' ') => Place::Between,
@@ -119,7 +119,7 @@ fn push_part(alloc: Global, part: &Part, bytes: &mut Vec<u8>) -> Result<bool, Al
     }
 }
 
-// How often a text stands that is followed by `*N`, or by nothing.
+// How often a text is repeated that is followed by `*N`, or by nothing.
 fn times_of(suffix: &str) -> Option<u64> {
     if suffix.is_empty() {
         Some(1)

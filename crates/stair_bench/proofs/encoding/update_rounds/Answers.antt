@@ -1,4 +1,4 @@
--- The code is of the same geometry in each round, and so is the stripe.
+-- The code and the stripe have the same geometry in each round.
 use Rattle.std.proofs.Common.{◌≡◌, ◌<◌, ℕ, ◌∙◌, sym, subst}
 use Rattle.stair_model.specs.Cell.{Data, cell_at}
 use Rattle.stair_model.specs.Stripe.{IsStripeOf}

@@ -1,4 +1,4 @@
--- The code's shape stays, and so do its places.
+-- The code's shape and its places stay the same.
 use Rattle.std.proofs.Common.{sym, subst}
 use Rattle.stair_model.specs.CauchyCode.{AreKnownPlaces}
 use Rattle.stair_mds.specs.Solving.{AreWantedPlaces}
