@@ -1,4 +1,4 @@
-//! Reads of sectors in order, also with some passed over, over image files: those that are read ahead answer as if each were read
+//! Reads of sectors in order over image files, also with some skipped. Sectors that are read ahead answer as if each were read
 //! alone.
 
 use crate::faulty::{Fault, FaultyFiles};

@@ -260,7 +260,7 @@ fn a_crash_of_a_rack_that_a_crash_made(rt: HostRuntime) {
     }
 }
 
-// The record has room for the attach of a slot of 4 sectors alone. The next attach is gone, and `sectors` answers what it
+// The record has room only for the attach of a slot of 4 sectors. The next attach is gone, and `sectors` answers what it
 // found.
 #[test]
 fn sectors_of_a_spent_record(rt: HostRuntime) {

@@ -59,7 +59,7 @@ const TURNS: [Turn; 7] = [
     Turn::Count(4),
 ];
 
-// A source over a reader of these turns gives these pieces, and the reader isn't asked for the last `left` turns.
+// A source over a reader of these turns gives these pieces. The reader isn't asked for the last `left` turns.
 fn check_source(rt: &impl Abort, turns: &[Turn], takes: &[Taken], left: usize) {
     let mut reader = Scripted { turns };
     let mut source = FromRead::new(&mut reader);

@@ -25,7 +25,7 @@ fn filling_of(block: &[u8]) -> Option<u8> {
     block.iter().all(|byte| *byte == first).then_some(first)
 }
 
-/// What fills blocks that were put out; None where one isn't filled with a single byte and is no table, or there are others than 15.
+/// Returns what fills blocks that were put out. Returns `None` if there aren't 15, or one is no table and isn't filled with one byte.
 pub(crate) fn fillings_of(put: &[u8]) -> Option<Fillings> {
     if put.len() != 15 * 512 {
         return None;
@@ -55,7 +55,7 @@ pub(crate) fn with_first(fillings: &Fillings, count: usize, filling: u8) -> Fill
     fillings
 }
 
-/// What a call put out that read all blocks, and told.
+/// What a call that read all blocks put out and reported.
 #[derive(Clone, Copy, PartialEq, Eq)]
 pub(crate) struct Blocks {
     pub(crate) fillings: Fillings,
@@ -69,7 +69,7 @@ impl Blocks {
     }
 }
 
-/// Reads all blocks; None where that isn't done.
+/// Reads all blocks; returns `None` if that isn't done.
 pub(crate) fn read_all(alloc: Global, rack: &mut MemRack) -> Result<Option<Blocks>, AllocError> {
     let came = call(alloc, rack, "read 0 15", &[], WHOLE)?;
     if came.status != Status::Done {

@@ -4,13 +4,13 @@ use std::fmt;
 /// Why no table was tried to its end.
 #[derive(Clone, Copy)]
 pub(crate) enum Fault {
-    /// The words are others than those of the usage.
+    /// The arguments are not those of the usage.
     Usage,
     /// A case wasn't as it should be, which was printed.
     Wrong,
     /// Standard output failed.
     Output,
-    /// There was no memory.
+    /// Out of memory.
     OutOfMemory,
 }
 
@@ -46,7 +46,7 @@ impl From<AllocError> for Fault {
 /// Which other bytes are tried at the places of superblocks and gates.
 #[derive(Clone, Copy, PartialEq, Eq)]
 pub(crate) enum Extent {
-    /// Some, and after the fields at some places alone.
+    /// Some, and after the fields only at some places.
     Some,
     /// All, or many, at all places.
     Whole,

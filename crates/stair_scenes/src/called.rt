@@ -28,7 +28,7 @@ pub(crate) const WHOLE: Ends = Ends {
     room: 1_000_000,
 };
 
-/// What a call came to.
+/// The result of a call.
 #[derive(Drop)]
 pub(crate) struct Came {
     pub(crate) status: Status,
@@ -114,7 +114,7 @@ fn told_to(alloc: Global, watchers: &Vec<Box<dyn Watcher>>) -> Result<Vec<Event>
 #[derive(Drop)]
 pub(crate) struct Wanted {
     pub(crate) has_status: bool,
-    /// whether whatever it comes to is as good
+    /// whether any result is as good
     pub(crate) is_any: bool,
     pub(crate) put: Vec<u8>,
     /// other outputs that are as good
@@ -124,7 +124,7 @@ pub(crate) struct Wanted {
 }
 
 impl Wanted {
-    /// Nothing is put out or told.
+    /// Nothing is put out or reported.
     pub(crate) fn nothing(alloc: Global) -> Wanted {
         Wanted {
             has_status: false,
@@ -136,7 +136,7 @@ impl Wanted {
         }
     }
 
-    /// Compares what a call came to with what was wanted.
+    /// Compares the result of a call with what was wanted.
     pub(crate) fn judge(&self, alloc: Global, call: &Call, came: &Came) -> Result<(), Fault> {
         if self.is_any {
             return Ok(());

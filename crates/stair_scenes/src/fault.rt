@@ -5,7 +5,7 @@ use std::alloc::{AllocError, AllocFailed, Global};
 pub(crate) enum Fault {
     /// A line isn't in the grammar, or a want fails: this is said of it.
     Said(String),
-    /// There was no memory.
+    /// Out of memory.
     OutOfMemory,
 }
 

@@ -31,7 +31,7 @@ impl From<AllocError> for Stop {
     }
 }
 
-// Plays the scenes of a file, and prints how many passed; whether all did.
+// Plays the scenes of a file, and prints how many passed. Returns whether all did.
 fn play_file(rt: &HostRuntime, name: &str) -> Result<bool, Stop> {
     let alloc = rt.alloc();
     let text = match fs::read_to_string(rt, name) {
@@ -74,7 +74,7 @@ fn run(rt: &HostRuntime) -> Result<bool, Stop> {
 }
 
 fn main(rt: HostRuntime) -> ExitCode {
-    // where standard error can't be written, the exit status still tells
+    // if standard error can't be written, the exit status still has the cause
     let (code, said) = match run(&rt) {
         Ok(true) => return ExitCode::SUCCESS,
         Ok(false) => return ExitCode::from(1),

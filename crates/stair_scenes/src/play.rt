@@ -1,4 +1,4 @@
-// The lines of a scene, done one after the other.
+// The lines of a scene, run in order.
 use crate::called::{Call, Came, WHOLE, Wanted, differs};
 use crate::fault::{Fault, said, with_values};
 use crate::lines::{Line, Scene, repeated};
@@ -14,7 +14,7 @@ use stair_monitor::read_event;
 use stair_rack::{EventKind, Got};
 use std::alloc::{AllocError, Global};
 
-/// Plays a scene; the line at which it went wrong, and how.
+/// Plays a scene. Returns the line at which it went wrong, and how.
 pub(crate) fn play(alloc: Global, scene: Scene) -> Result<(), (u32, Fault)> {
     let number = scene.number;
     let lines = repeated(alloc, scene.lines)?;
@@ -37,7 +37,7 @@ fn no_want(alloc: Global) -> Fault {
     }
 }
 
-// The last call: its line, what it came to, and what is wanted of it.
+// The last call: its line, its result, and what is wanted of it.
 #[derive(Drop)]
 struct Last {
     number: u32,
@@ -86,7 +86,7 @@ impl Player {
         done.map_err(|fault| (line.number, with_values(alloc, fault, line.values.as_str())))
     }
 
-    // Compares what the last call came to with what was wanted, once.
+    // Compares the result of the last call with what was wanted, once.
     fn judge(&mut self, alloc: Global) -> Result<(), (u32, Fault)> {
         match &mut self.last {
             Some(last) if !last.is_judged => {

@@ -152,7 +152,7 @@ pub(crate) fn read_kind(word: &str) -> Option<EventKind> {
     }
 }
 
-/// The words of a call, and its input where it has one.
+/// The arguments of a call, and its input if it has one.
 pub(crate) fn read_input(alloc: Global, rest: &str) -> Result<(&str, Option<Vec<u8>>), Fault> {
     if let Some((words, bytes)) = rest.split_once(" < ") {
         return Ok((words, Some(read_bytes(alloc, bytes)?)));
