@@ -36,7 +36,7 @@ const HAPPENINGS: [What; 12] = [
     What::PullLosing { slot: 3 },
 ];
 
-// What three calls told in all, of which one at most told anything.
+// What three calls reported in all, of which at most one reported anything.
 fn told_once(told: [Told; 3]) -> Option<Told> {
     let mut once = NOTHING_TOLD;
     for one in told {
@@ -50,7 +50,7 @@ fn told_once(told: [Told; 3]) -> Option<Told> {
     Some(once)
 }
 
-// Whether the write is done all the same, and the blocks are read in two calls after it; a slot that was pulled is left out once.
+// Whether the write is done all the same, and the blocks are read in two calls after it. A pulled slot is left out once.
 fn is_done(alloc: Global, at: u32, what: What) -> Result<bool, AllocError> {
     let mut rack = with_blocks(alloc, &[act(at, what)])?;
     let came = call(alloc, &mut rack, "write 0 1", &[WRITTEN; 512], WHOLE)?;

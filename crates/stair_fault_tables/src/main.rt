@@ -20,7 +20,7 @@ use std::{env, io};
 use stops::Work;
 use tally::{Extent, Fault, Part};
 
-/// Reads the words after the program's name. Words that are no text are none of the usage.
+/// Reads the arguments after the program's name. Arguments that are not UTF-8 text are a faulty command line.
 fn read_extent(rt: &HostRuntime) -> Result<Extent, Fault> {
     let mut words = match env::args(rt) {
         Ok(words) => words,
@@ -69,7 +69,7 @@ fn main(rt: HostRuntime) -> ExitCode {
     match run(&rt) {
         Ok(()) => ExitCode::SUCCESS,
         Err(fault) => {
-            // Where standard error can't be written, the exit status still tells.
+            // If standard error can't be written, the exit status still has the cause.
             let _ = eprintln!(rt; "{fault}");
             ExitCode::from(fault.code())
         }

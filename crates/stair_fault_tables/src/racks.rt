@@ -21,8 +21,8 @@ pub(crate) fn blank_device(slot: u8) -> [Act; 2] {
     [act(0, What::Pull { slot }), act(0, insert)]
 }
 
-/// The array of four devices, in which a write of block 0 was stopped once all gates were open and before any cell was placed, and
-/// to which this happens.
+/// The array of four devices, in which a write of block 0 was stopped after all gates were opened and before any cell was written.
+/// These acts happen to it then.
 pub(crate) fn with_open_gates(alloc: Global, acts: &[Act]) -> Result<MemRack, AllocError> {
     let mut rack = with_blocks(alloc, &[act(OPENING + UP_TO_PLACING, What::Stop)])?;
     let _ = call(alloc, &mut rack, "write 0 1", &[WRITTEN; 512], WHOLE)?;
@@ -53,7 +53,7 @@ pub(crate) fn with_table(alloc: Global, acts: &[Act]) -> Result<MemRack, AllocEr
     restarted(alloc, rack, acts)
 }
 
-/// Writes this byte at a place of a sector, and syncs; false where the sector can't be read.
+/// Writes this byte at a place of a sector, and syncs. Returns false if the sector can't be read.
 pub(crate) fn change(rack: &mut MemRack, slot: u8, sector: u32, place: usize, byte: u8) -> bool {
     let slot = slot.min(31);
     rack.attach(slot);

@@ -163,7 +163,7 @@ impl Work {
         }
     }
 
-    // Whether an image is as it should be: its blocks are read, read again after another crash, and read once a device is lost.
+    // Whether an image is as it should be: its blocks are read, read again after another crash, and read again after a device is lost.
     fn is_settled(self, alloc: Global, left: Left, at: u32) -> Result<bool, AllocError> {
         let mut rack = left.rack;
         let Some(first) = read_all(alloc, &mut rack)? else {

@@ -20,7 +20,7 @@ const COMMANDS: [Command; 6] = [
     Command::Run,
 ];
 
-// What goes amiss: the input ends, the source fails, or the sink does.
+// The fault: the input ends, the source fails, or the sink fails.
 #[derive(Clone, Copy, PartialEq, Eq)]
 enum Fault {
     Cut,
@@ -28,7 +28,7 @@ enum Fault {
     Sink,
 }
 
-// Where it does: before the first byte, after it, or before the last.
+// The place of the fault: before the first byte, after it, or before the last.
 #[derive(Clone, Copy, PartialEq, Eq)]
 enum Place {
     First,
@@ -47,7 +47,7 @@ impl Place {
     }
 }
 
-// What a command puts out where nothing goes amiss.
+// What a command puts out without a fault.
 fn output(alloc: Global, command: Command) -> Result<Vec<u8>, AllocError> {
     match command {
         Command::Check => b"codeword\n".to_vec(alloc),
@@ -127,7 +127,7 @@ fn is_left(
     reads(alloc, &mut rack, &wanted, NOTHING_TOLD)
 }
 
-// Whether a command ends as it should where this goes amiss there, with a source that gives pieces of this size.
+// Whether a command ends as it should with this fault at this place, with a source that gives pieces of this size.
 fn ends(
     alloc: Global,
     command: Command,
