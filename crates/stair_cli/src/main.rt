@@ -1,4 +1,4 @@
-//! `stair FOLDER COMMAND ..`: the words after the folder are done over standard input and output and the folder's image files.
+//! `stair FOLDER COMMAND ..`: runs a command over standard input and output and the folder's image files.
 #![tactic(auto)]
 
 use stair_engine::stair;
@@ -13,7 +13,7 @@ use std::process::ExitCode;
 use std::sync::ledger::{Blank, Ledger};
 use std::{fs, io};
 
-/// The exit status if another program has the folder: EX_TEMPFAIL, by which scripts and mailers know that they may try again.
+/// The exit status if another program has locked the folder: EX_TEMPFAIL, after which scripts and mailers try again.
 const IN_USE: u8 = 75;
 
 /// The array program.
@@ -40,16 +40,16 @@ fn hold_streams(rt: &HostRuntime) -> io::Result<[File; 3]> {
     Ok([fs::open(rt, "/")?, fs::open(rt, "/")?, fs::open(rt, "/")?])
 }
 
-/// Tells the status, and gives its code.
+/// Prints the status, and returns its code.
 fn end(rt: &HostRuntime, status: Status) -> ExitCode {
     if status != Status::Done {
-        // Where standard error can't be written, the exit status still tells.
+        // If standard error can't be written, the exit status still has the cause.
         let _ = eprintln!(rt; "{status}");
     }
     ExitCode::from(status.code())
 }
 
-/// Tells how many events of each kind there were.
+/// Prints how many events of each kind there were.
 fn tell_counts(rt: &HostRuntime, events: Counts) {
     let Counts {
         fenced,
@@ -63,7 +63,7 @@ fn tell_counts(rt: &HostRuntime, events: Counts) {
 }
 
 fn main(rt: HostRuntime) -> ExitCode {
-    // They are held until the end. Where the directory can't be opened nothing is done, as where the input failed.
+    // They are held until the end. If the directory can't be opened nothing is done, as if the input failed.
     let streams = hold_streams(&rt);
     if let Err(error) = &streams {
         report_fault(&rt, "/", *error);

@@ -11,7 +11,7 @@ use stair_conf::{Job, WordsFault};
 use stair_filerack::{Access, FileRack};
 use stair_status::Status;
 
-/// Reports why each device was gone, how many of its sectors are bad, and what else tells why the call ended as it did.
+/// Reports why each device was gone, how many of its sectors are bad, and any other cause of the call's exit status.
 pub(crate) fn report_after(
     rt: &HostRuntime,
     folder: &str,
@@ -47,7 +47,7 @@ fn report_devices(rt: &HostRuntime, folder: &str, called: &Called<'_>) {
     }
 }
 
-// A rack of its own, since that of the call has devices that are gone.
+// A new rack, since the call's rack has devices that are gone.
 fn report_missing_in(rt: &HostRuntime, folder: &str) -> Option<Geometry> {
     let mut rack = FileRack::at(rt, rt.alloc(), folder, Access::Reading).ok()?;
     report_missing(rt, &mut rack)

@@ -25,9 +25,9 @@ use std::io::{BufReader, IsTerminal, Stderr, Stdin, Stdout};
 use std::rc::Rc;
 use std::sync::ledger::{Blank, Ledger};
 
-/// The call by which words are done, over a rack, a source, a sink, watchers and a counter of steps.
+/// The call that runs a command line over a rack, a source, a sink, watchers and a counter of steps.
 pub trait TopCall {
-    /// Does what the words say, and tells what came of it. None of the watchers has left.
+    /// Runs the command line, and returns its result. None of the watchers has left.
     fn answer<R: Rack, S: Source, K: Sink, L: Ledger>(
         &self,
         alloc: Global,
@@ -41,14 +41,14 @@ pub trait TopCall {
         requires { AllStay hears watchers.old.items };
 }
 
-/// After how many events in all, and after how many slots that were fenced, a watcher of a guarded script leaves.
+/// The limits of the two watchers of a guarded script: the number of events, and the number of fenced slots, after which each leaves.
 #[derive(Clone, Copy)]
 pub(crate) struct Limits {
     events: u64,
     fences: u64,
 }
 
-/// The limits of the watchers of this command, if it is a guarded script.
+/// Returns the limits of the watchers of this command, or `None` if it is not a guarded script.
 pub(crate) fn limits_of(job: &Job) -> Option<Limits>
     ensures { IfSome result (λ l. (1 ≤ l.events) × (1 ≤ l.fences)) }
 {
@@ -67,7 +67,7 @@ pub(crate) fn limits_of(job: &Job) -> Option<Limits>
 pub(crate) struct Manner {
     /// What its command does with the devices.
     pub(crate) usage: DeviceUse,
-    /// By what a terminal shows how far it is. Where there is none nothing is shown.
+    /// What a terminal measures its progress by. If `None`, it shows nothing.
     pub(crate) measure: Option<Measure>,
     /// How many bytes of the input are read ahead at most.
     pub(crate) ahead: usize,
@@ -91,8 +91,8 @@ pub(crate) struct Called<'a> {
     pub(crate) output: Option<io::Error>,
 }
 
-/// Makes the call. Events of the array are printed on standard error as they happen, and counted; while the call runs, a terminal
-/// shows how far it is. Of a guarded script two more watchers, with these limits, come after those two. The only error is out of
+/// Makes the call. Events of the array are printed on standard error as they happen, and counted. While the call runs, a terminal
+/// shows its progress. A guarded script has two more watchers after those two, with these limits. The only error is out of
 /// memory, before the call.
 pub(crate) fn call<'a, T: TopCall, L: Ledger>(
     rt: &'a HostRuntime,
@@ -148,7 +148,7 @@ pub(crate) fn call<'a, T: TopCall, L: Ledger>(
         *counts = tally.counts();
     }
     let (mut rack, bad) = rack.into_parts();
-    // what isn't written yet; a file that fails keeps the reason, and it is reported with those of the call
+    // syncs what isn't written yet; a file that fails keeps the reason, which is reported with those of the call
     rack.finish();
     Ok(Called {
         status,
@@ -186,7 +186,7 @@ fn input_of<'g, 'f>(
 /// Standard output.
 type Output<'f> = FromWrite<Noting<'f, Cleared<Stdout>>>;
 
-// Standard output, which clears what is shown on the screen where it goes to a terminal.
+// Standard output. If it goes to a terminal, it clears the progress line first.
 fn output_of<'f>(
     rt: &HostRuntime,
     screen: &Rc<Screen>,

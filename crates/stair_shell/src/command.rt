@@ -23,9 +23,9 @@ struct Words {
 /// Why no call was made.
 #[derive(Clone, Copy, Debug, Drop)]
 pub enum Refusal {
-    /// As this status says.
+    /// The cause that this status names.
     Status(Status),
-    /// Another program has the folder, which was reported.
+    /// Another program has locked the folder, which was reported.
     InUse,
 }
 
@@ -41,8 +41,8 @@ impl From<InUse> for Refusal {
     }
 }
 
-/// The folder and the words after it. Words that are no text are a faulty command line, and so is an empty folder: then there
-/// is no command.
+/// Returns the folder and the arguments after it. An argument that is not UTF-8 text, or an empty folder, is a faulty command
+/// line: then there is no command.
 fn read_words(rt: &HostRuntime) -> Result<Words, Status> {
     let mut words = match env::args(rt) {
         Ok(words) => words,
@@ -61,7 +61,7 @@ fn read_words(rt: &HostRuntime) -> Result<Words, Status> {
     }
 }
 
-/// What became of a command.
+/// The result of a command.
 #[derive(Debug, Drop)]
 pub struct Outcome {
     pub ended: Result<Status, Refusal>,
@@ -69,7 +69,7 @@ pub struct Outcome {
     pub events: Option<Counts>,
 }
 
-/// Does what the words of the command line say by this call, with a counter on this ledger.
+/// Runs the command line by this call, with a counter on this ledger.
 pub fn run<T: TopCall, L: Ledger>(rt: &HostRuntime, top: &T, blank: Blank) -> Outcome
     requires name { blank.name ≡ L.name }
     requires parts { blank.parts ≡ L.parts }
@@ -85,7 +85,7 @@ pub fn run<T: TopCall, L: Ledger>(rt: &HostRuntime, top: &T, blank: Blank) -> Ou
         }
     };
     let job = stair_conf::read_words(rt.alloc(), &words.command);
-    // Without the job nothing tells how its devices are to be opened.
+    // Without the job it is not known how its devices are to be opened.
     if matches!(job, Err(WordsFault::Memory)) {
         return Outcome {
             ended: Err(Refusal::Status(Status::OutOfMemory)),
@@ -103,8 +103,8 @@ pub fn run<T: TopCall, L: Ledger>(rt: &HostRuntime, top: &T, blank: Blank) -> Ou
     Outcome { ended, events }
 }
 
-/// Does what these words say. A command that writes has the folder for itself, and is begun only where no device of the folder is
-/// refused for a reason of the caller's: what is gone in a call is down from then on.
+/// Runs these arguments. A command that writes locks the folder exclusively. It begins only if no device of the folder is
+/// refused for a reason of the caller's, since a device that is gone in a call is down from then on.
 fn run_words<T: TopCall, L: Ledger>(
     rt: &HostRuntime,
     top: &T,
@@ -150,7 +150,7 @@ fn run_words<T: TopCall, L: Ledger>(
     Ok(called.status)
 }
 
-// How a call is made for these words. Words that are none of a command look at no device.
+// Returns how the call of these arguments is made. Arguments that are no command look at no device.
 fn manner_of(rt: &HostRuntime, job: &Result<Job, WordsFault>) -> Manner {
     match job {
         Ok(job) => Manner {

@@ -5,8 +5,8 @@ use stair_copies::{Copies, find_copies};
 use stair_filerack::{Access, FileRack};
 use stair_status::Status;
 
-/// Reports each device of the folder that is an older copy. A command that opens the array is refused then, before it takes
-/// any input: it would read the old blocks as the array's.
+/// Reports each device of the folder that is an older copy. If there is one, a command that opens the array is refused before it
+/// takes any input: it would read the old blocks as the array's.
 pub(crate) fn refuse_copies(
     rt: &HostRuntime,
     folder: &str,
@@ -16,7 +16,7 @@ pub(crate) fn refuse_copies(
     if matches!(usage, DeviceUse::Unused | DeviceUse::Made) {
         return Ok(());
     }
-    // A rack of its own, so that nothing that it finds counts as found by the command.
+    // A separate rack, so that what it finds is not counted as found by the command.
     let Ok(mut rack) = FileRack::at(rt, rt.alloc(), folder, Access::Reading) else {
         return Err(Status::OutOfMemory);
     };
@@ -29,7 +29,7 @@ pub(crate) fn refuse_copies(
     }
 }
 
-// Reports for each older copy how the array is mended, and returns the first slot that has one.
+// Reports for each older copy how the array is repaired, and returns the first slot that has one.
 fn report_copies(rt: &HostRuntime, copies: &Copies) -> Option<u8> {
     let mut first = None;
     for slot in 0..32u8 {

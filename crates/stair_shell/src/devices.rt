@@ -50,8 +50,8 @@ pub(crate) fn use_of(job: &Job) -> DeviceUse {
     }
 }
 
-/// How many bytes of its input may be read ahead. A text of lines is taken byte by byte; of what another command doesn't take nothing is
-/// read. A client's messages are taken header by header, and their data at once.
+/// Returns how many bytes of its input may be read ahead. A text of lines is taken byte by byte. A command reads no input that it
+/// doesn't take. A client's messages are taken header by header, and their data at once.
 pub(crate) fn ahead_of(job: &Job) -> usize {
     match job {
         Job::Run | Job::Guard { .. } | Job::Report => 64 * 1024,
@@ -59,8 +59,8 @@ pub(crate) fn ahead_of(job: &Job) -> usize {
     }
 }
 
-/// Returns by what a terminal shows how far a command is. A session of `serve` shows nothing, since it may run in the background of a
-/// shell. The length of a script is known if it is a file.
+/// Returns what a terminal measures the progress of a command by. A session of `serve` shows nothing, since it may run in the
+/// background of a shell. The length of a script is known if it is a file.
 pub(crate) fn measure_of(rt: &HostRuntime, job: &Job) -> Option<Measure> {
     match job {
         Job::Serve => None,

@@ -11,8 +11,8 @@ const NO_DIRECTORY: i32 = 20;
 #[derive(Clone, Copy, Debug, Drop)]
 pub(crate) struct InUse;
 
-/// Takes the advisory lock of the folder, which goes with the file that is returned: the devices of a folder are used by one
-/// program at a time. A folder that can't be opened, or has no locks, is reported.
+/// Takes the advisory lock of the folder, and returns the file that holds it: one program at a time uses the devices of a
+/// folder. The lock is released when the file is dropped. A folder that can't be opened, or has no locks, is reported.
 pub(crate) fn lock_folder(rt: &HostRuntime, folder: &str) -> Result<Option<File>, InUse> {
     let file = match open_folder(rt, folder) {
         Ok(file) => file,
@@ -32,7 +32,7 @@ pub(crate) fn lock_folder(rt: &HostRuntime, folder: &str) -> Result<Option<File>
     Ok(Some(file))
 }
 
-/// Reports why the folder can't be looked into, if it can't.
+/// Reports why the folder can't be read, if it can't.
 pub(crate) fn look_at_folder(rt: &HostRuntime, folder: &str) {
     if let Err(error) = find_folder(rt, folder) {
         report(rt, folder, Reason::Failed(error));
@@ -53,7 +53,7 @@ fn find_folder(rt: &HostRuntime, folder: &str) -> io::Result<()> {
     }
 }
 
-/// Reports each name in the folder that is close to that of a device, and is none.
+/// Reports each name in the folder that is close to that of a device, but is not one.
 pub(crate) fn report_near_names(rt: &HostRuntime, folder: &str) {
     let Ok(entries) = fs::read_dir(rt, folder) else {
         return;

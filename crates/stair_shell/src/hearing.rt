@@ -1,4 +1,4 @@
-// The geometry of an array that is made is known from its text alone, since its superblocks are written last.
+// The geometry of a new array is known only from its geometry text, since its superblocks are written last.
 use crate::limits::{GivenNumbers, numbers_in};
 use stair_base::Geometry;
 use stair_conf::{ConfigFault, read_config};
@@ -6,7 +6,7 @@ use stair_rack::{Source, Taken};
 use std::alloc::Global;
 use std::cell::Cell;
 
-/// What was taken of a geometry text, and cells for what it says.
+/// The part of a geometry text that was taken, and cells for what the whole says.
 #[derive(Drop)]
 pub(crate) struct HeardText<'a> {
     alloc: Global,
@@ -18,8 +18,8 @@ pub(crate) struct HeardText<'a> {
 }
 
 impl<'a> HeardText<'a> {
-    /// Nothing was taken yet. Once the text has ended, one cell has its geometry, or the other one the numbers of a text that breaks a
-    /// limit.
+    /// Returns the state before anything is taken. Once the text has ended, one cell holds its geometry, or the other one holds the
+    /// numbers of a text that breaks a limit.
     pub(crate) fn new(
         alloc: Global,
         geometry: &'a Cell<Option<Geometry>>,

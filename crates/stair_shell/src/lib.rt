@@ -1,5 +1,5 @@
-//! What the program does around its one call: the words, the lock of the folder, standard input and output, the watchers, what is
-//! shown of a call that is under way, and what is reported of the cause after it.
+//! What the program does around its one call: the command line, the lock of the folder, standard input and output, the watchers,
+//! the progress line, and the report of the cause after the call.
 #![tactic(auto)]
 
 mod after;

@@ -3,7 +3,7 @@ use stair_conf::Job;
 use std::alloc::Global;
 use toml::{Table, Value};
 
-// An `e` that is longer breaks limit 4, which tells how long it is.
+// A longer `e` breaks limit 4, whose message has its length.
 const MOST: usize = 32;
 
 /// The numbers of a geometry as they were given.
@@ -19,7 +19,7 @@ pub(crate) struct GivenNumbers {
     large: bool,
 }
 
-/// Returns the numbers of a command line, if it has those of a geometry.
+/// Returns the numbers of a geometry in a command line, or `None` if it has none.
 pub(crate) fn numbers_of(job: &Job) -> Option<GivenNumbers> {
     match job {
         Job::OneStripe { n, m, r, e, .. } | Job::Plan { n, m, r, e } => Some(GivenNumbers {
@@ -35,7 +35,7 @@ pub(crate) fn numbers_of(job: &Job) -> Option<GivenNumbers> {
     }
 }
 
-/// Returns the numbers of a geometry text, if it has them all.
+/// Returns the numbers of a geometry text, or `None` if one is missing.
 pub(crate) fn numbers_in(alloc: Global, text: &[u8]) -> Option<GivenNumbers> {
     let text = str::from_utf8(text).ok()?;
     let table = toml::table_from_str(alloc, text).ok()?;
@@ -117,7 +117,7 @@ pub(crate) fn report_limit(rt: &HostRuntime, limit: u8, given: &GivenNumbers) {
     };
 }
 
-/// Reports how a geometry text gets an array of more stripes.
+/// Reports how to write a geometry text of an array with more stripes.
 pub(crate) fn report_large(rt: &HostRuntime) {
     let _ = eprintln!(rt;
         "geometry: with `large = true` limit 8 is 3 + n*r + r*stripes <= 4294967295"

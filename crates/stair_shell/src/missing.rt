@@ -1,4 +1,4 @@
-// The array that is there if no array can be opened, since too few of its devices are.
+// The array of the folder if none can be opened, since too few of its devices are there.
 ghost use Rattle.std.specs.Prelude.{◌<◌};
 
 use crate::report::{Device, report};

@@ -12,10 +12,10 @@ use std::time::{Duration, Instant};
 // A command that ends within so many milliseconds shows nothing.
 const FIRST: u64 = 1000;
 
-// For so many the line stays as it is.
+// The line is rewritten at most once in so many milliseconds.
 const AGAIN: u64 = 100;
 
-/// By what a terminal shows how far a command is.
+/// What a terminal measures the progress of a command by.
 #[derive(Clone, Copy, Debug, PartialEq, Eq, Drop)]
 pub(crate) enum Measure {
     /// How many sectors were read and written.
@@ -170,7 +170,7 @@ impl Progress<'_> {
         }
     }
 
-    // How much of the command is done, where that is known.
+    // How much of the command is done, if that is known.
     fn reach(&self) -> Option<Reach> {
         match self.measure {
             Measure::Sectors => None,
@@ -229,7 +229,7 @@ pub(crate) struct ProgressRack<'a, R: Rack> {
 }
 
 impl<'a, R: Rack + Drop> ProgressRack<'a, R> {
-    /// Shows it from here on, by this measure, or where there is none not at all.
+    /// Shows progress from here on by this measure, or nothing if there is none.
     pub(crate) fn new(
         rack: R,
         bad: BadSectors,
@@ -257,7 +257,7 @@ impl<'a, R: Rack + Drop> ProgressRack<'a, R> {
         (rack, bad)
     }
 
-    // Superblocks are written of the array alone that is open, and may be read of others too.
+    // Superblocks are written only to the open array, but may be read of other arrays too.
     fn learn(&self, place: &[u8; SECTOR]) {
         if let Some(block) = read_super(place) {
             self.geometry.set(Some(block.geometry()));

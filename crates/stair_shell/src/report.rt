@@ -16,7 +16,7 @@ impl fmt::Display for Device {
     }
 }
 
-/// Prints a line on standard error: what it is about, and what is to be said. If that can't be written, the exit status still tells.
+/// Prints a line on standard error: its subject and its text. If it can't be written, the exit status still has the cause.
 pub(crate) fn report(rt: &HostRuntime, subject: impl Display + Drop, what: impl Display + Drop) {
     let _ = eprintln!(rt; "{subject}: {what}");
 }

@@ -48,7 +48,7 @@ impl<W: Write + Drop> Write for Noting<'_, W> {
     }
 }
 
-/// Reports why the stream failed that a command ended for.
+/// Reports why the stream failed, if a command ended because of it.
 pub(crate) fn report_stream(
     rt: &HostRuntime,
     status: Status,
@@ -62,7 +62,7 @@ pub(crate) fn report_stream(
     }
 }
 
-/// Reports why a call of the system failed on this stream or path. A stream that was closed when the program began is the directory `/`,
+/// Reports why a system call failed on this stream or path. A stream that was closed when the program began is the directory `/`,
 /// as is one that a caller made a directory.
 pub fn report_fault(rt: &HostRuntime, subject: &str, error: io::Error) {
     if error.kind() == io::ErrorKind::IsADirectory {
