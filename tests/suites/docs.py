@@ -10,7 +10,7 @@ from fixture import *
 from shell import *
 
 README, OPERATING = TOP / "README.md", TOP / "docs" / "operating.md"
-DOCUMENTS = [README, *sorted((TOP / "docs").rglob("*.md"))]
+DOCUMENTS = [README, TOP / "CONTRIBUTING.md", *sorted((TOP / "docs").rglob("*.md"))]
 FIGURES = TOP / "docs" / "figures"
 
 
