@@ -82,8 +82,8 @@ pub(crate) fn script(alloc: Global) -> Result<Vec<u8>, AllocError> {
     Ok(text)
 }
 
-/// What the blocks may hold once this was put out: what they hold after the lines that have a reply, or after one line more.
-/// Returns `None` if it isn't the replies of some first lines.
+/// Adds what the blocks may hold once this was put out: what they hold after the lines that have a reply, or after one line more.
+/// Adds none if it isn't the replies of some first lines.
 pub(crate) fn contents_after(
     alloc: Global,
     put: &[u8],
