@@ -53,7 +53,7 @@ pub(crate) fn limits_of(job: &Job) -> Option<Limits>
     ensures { IfSome result (λ l. (1 ≤ l.events) × (1 ≤ l.fences)) }
 {
     match job {
-        // words spell no others
+        // a command line has no other limits
         Job::Guard { events, fences } if *events > 0 && *fences > 0 => Some(Limits {
             events: *events,
             fences: *fences,
@@ -148,7 +148,7 @@ pub(crate) fn call<'a, T: TopCall, L: Ledger>(
         *counts = tally.counts();
     }
     let (mut rack, bad) = rack.into_parts();
-    // syncs what isn't written yet; a file that fails keeps the reason, which is reported with those of the call
+    // writes what is pending; a file that fails keeps the reason, which is reported with those of the call
     rack.finish();
     Ok(Called {
         status,
