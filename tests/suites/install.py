@@ -332,5 +332,5 @@ class Kits(Install):
 
     def test_the_kit_of_the_documents(self):
         self.assertEqual(KIT, (TOP / "KIT").read_text().strip())
-        for name in "README.md", "docs/proved.md":
+        for name in "README.md", "docs/proofs.md":
             self.assertIn(f"`{KIT}`", (TOP / name).read_text())

@@ -1,4 +1,4 @@
-"""The man page docs/stair.1 is made from docs/reference.md, and both have the commands and exit statuses of the program."""
+"""The man page is made from docs/reference.md, and both have the commands and exit statuses of the program; docs/definitions.md is generated."""
 import re
 
 from fixture import *
@@ -100,6 +100,10 @@ class Made(Case):
     def test_from_the_reference(self):
         ended = self.run_command([str(TOP / "scripts" / "manpage")])
         self.check_ended(ended, 0, "", PAGE.read_bytes())
+
+    def test_definitions_from_the_specifications(self):
+        ended = self.run_command([str(TOP / "scripts" / "definitions")])
+        self.check_ended(ended, 0, "", (TOP / "docs" / "definitions.md").read_bytes())
 
 
 class Commands(Manual):

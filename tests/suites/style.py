@@ -75,7 +75,8 @@ def place_of(path):
 @functools.lru_cache(maxsize=None)
 def all_hits():
     """Returns the idioms of the repository by their places."""
-    documents = [TOP / "README.md", *(TOP / "docs").rglob("*.md")]
+    # docs/definitions.md is generated from the comments of the crates.
+    documents = [TOP / "README.md", *(it for it in (TOP / "docs").rglob("*.md") if it.name != "definitions.md")]
     files = [it for it in (TOP / "crates").rglob("*") if it.suffix in (".md", *COMMENTS) and "out" not in it.parts]
     found = collections.defaultdict(list)
     for path in sorted(documents + files):
