@@ -1,8 +1,13 @@
 -- Stripes restored one after another.
-use Rattle.std.proofs.Common.{◌≡◌, ℕ, ◌+◌, ◌<◌, ◌≤◌, List, inl, inr, refl, subst, sym, ◌∙◌, arith}
+use Rattle.std.proofs.Common.{◌≡◌, ℕ, zero, suc, ◌+◌, ◌*◌, ◌/◌, ◌%◌, ◌<◌, ◌≤◌, List, [], slice_index_or, inl, inr, refl, subst, sym, ◌∙◌, ap, ap₂, arith}
 use Rattle.std.specs.Prelude.{IfOk, IsOk, Result, Ok, Err}
 use Rattle.std.proofs.lemmas.Bool.{cases_eq, false≢true}
+use Rattle.std.proofs.lemmas.List.{ext_get_or}
+use Rattle.std.proofs.lemmas.Nat.{div_below, mod_below, div-add-mod'}
+use Rattle.stair_model.specs.CellSet.{CellSet, HasCell}
 use Rattle.stair_model.specs.Geometry.{Geometry}
+use Rattle.stair_model.specs.Restoring.{IsRestored}
+use Rattle.stair_model.specs.Stripe.{Stripe, IsStripeOf, IsWellFormed, cell}
 use Rattle.stair_c.proofs.SectorLemmas.{kept_at, was_at}
 use Rattle.stair_c.specs.Chunks.{HasStripes, IsSameAt}
 use Rattle.stair_c.specs.Restores.{IsRestoredAt}
@@ -61,3 +66,40 @@ module _ (g : Geometry) (k : ℕ) (erased : List ℕ) where
 pub when_ok : {T E : Type 0} {P : Type 0} → (r : Result T E) → IsOk r → IfOk r (λ _. P) → P
 when_ok (Ok value) ok holds = holds
 when_ok (Err error) ok holds = absurd (false≢true ok)
+
+-- a stripe by its three fields
+abbrev stripe_from : ℕ → ℕ → List (List ℕ) → Stripe
+stripe_from rows chunks cells = record { rows = rows; chunks = chunks; cells = cells }
+
+positive : (k r n : ℕ) → k < r * n → 0 < n
+positive k r zero below = absurd (omega (arith, below))
+positive k r (suc n) below = omega arith
+
+-- stripes of a geometry with the same cells are the same
+same_cells : (g : Geometry) (a b : Stripe) → IsStripeOf g a → IsWellFormed a → IsStripeOf g b → IsWellFormed b
+    → ((i j : ℕ) → i < g.r → j < g.n → cell a i j ≡ cell b i j) → a ≡ b
+same_cells g a b a_of a_formed b_of b_formed same =
+    ap₂ (λ rows chunks. stripe_from rows chunks a.cells) rows chunks
+    ∙ ap (λ cells. stripe_from b.rows b.chunks cells)
+    (ext_get_or [] a.cells b.cells (a_formed.count ∙ ap₂ (λ (x y : ℕ). x * y) rows chunks ∙ sym b_formed.count)
+    (λ k k_in.
+    let within : k < g.r * g.n = subst (λ (n : ℕ). k < n) (a_formed.count ∙ ap₂ (λ (x y : ℕ). x * y) a_of.rows a_of.chunks) k_in in
+    let some : 0 < g.n = positive k g.r g.n within in
+    ap (λ n. slice_index_or a.cells n []) (sym (place a a_of k))
+    ∙ same (k / g.n) (k % g.n) (div_below k g.n g.r some within) (mod_below k g.n some)
+    ∙ ap (λ n. slice_index_or b.cells n []) (place b b_of k)))
+  where
+    rows : a.rows ≡ b.rows
+    rows = a_of.rows ∙ sym b_of.rows
+
+    chunks : a.chunks ≡ b.chunks
+    chunks = a_of.chunks ∙ sym b_of.chunks
+
+    place : (s : Stripe) → IsStripeOf g s → (k : ℕ) → k / g.n * s.chunks + k % g.n ≡ k
+    place s of k = ap (λ (n : ℕ). k / g.n * n + k % g.n) of.chunks ∙ div-add-mod' k g.n
+
+-- a stripe of which nothing is erased is restored as it is
+pub whole_restored : (g : Geometry) (erased : CellSet) (s : Stripe) → IsStripeOf g s → IsWellFormed s
+    → ((i j : ℕ) → i < g.r → j < g.n → ¬ HasCell erased i j) → IsRestored g erased s s
+whole_restored g erased s of formed none c c_of c_formed codeword same =
+    same_cells g s c of formed c_of c_formed (λ i j row slot. sym (same i j row slot (none i j row slot)))

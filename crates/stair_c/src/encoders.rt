@@ -3,6 +3,7 @@ ghost use Rattle.stair_model.specs.Encoding.{IsEncodedFrom};
 ghost use Rattle.stair_model.specs.Stripe.{IsStripeOf};
 ghost use Rattle.stair_c.specs.Encoders.{shape};
 
+use crate::standard::standard_steps;
 use stair_base::{Geometry, Stripe};
 use stair_canon::Canon;
 use stair_codec::{By, Encoder, downstairs_steps, fewest, upstairs_steps};
@@ -11,12 +12,12 @@ use stair_gf::Steps;
 use stair_std::{Generator, encode_standard};
 use stair_up::encode_upstairs;
 use std::alloc::{AllocError, Global};
-use std::sync::ledger::Ledger;
+use std::marker::Brand;
+use std::sync::ledger::{Blank, Ledger};
 
 /// An encoder with what it needs for stripes of one geometry.
 ///
-/// A code of `stair_codec` has a [`Generator`] in any case, by which it updates a stripe. Making one takes as long as encoding
-/// some stripes.
+/// A [`Generator`] is made for standard encoding only: making one takes as long as encoding some stripes.
 #[derive(Drop)]
 pub(crate) enum Prepared {
     Standard(Generator),
@@ -36,19 +37,21 @@ pub(crate) fn prepare(alloc: Global, geometry: &Geometry, by: By) -> Result<Prep
     }
 }
 
-/// Prepares the encoder that takes the fewest steps.
+/// Prepares the encoder that takes the fewest steps. The canonical stripe that counts them is the one that encodes.
 fn prepare_fewest(alloc: Global, geometry: &Geometry) -> Result<Prepared, AllocError>
     ensures { IfOk result (λ prepared. shape prepared ≡ geometry.now) }
 {
-    let generator = Generator::new(alloc, geometry)?;
+    let mut canon = Canon::new(alloc, geometry)?;
+    let mut units = Stripe::new(alloc, geometry)?;
+    let standard = standard_steps::<Brand>(Blank::new(1), &mut canon, &mut units);
     match fewest(
-        generator.cost(),
+        standard,
         upstairs_steps(geometry),
         downstairs_steps(geometry),
     ) {
-        Encoder::Standard => Ok(Prepared::Standard(generator)),
-        Encoder::Upstairs => Ok(Prepared::Upstairs(Canon::new(alloc, geometry)?)),
-        Encoder::Downstairs => Ok(Prepared::Downstairs(Canon::new(alloc, geometry)?)),
+        Encoder::Standard => Ok(Prepared::Standard(Generator::new(alloc, geometry)?)),
+        Encoder::Upstairs => Ok(Prepared::Upstairs(canon)),
+        Encoder::Downstairs => Ok(Prepared::Downstairs(canon)),
     }
 }
 

@@ -10,4 +10,5 @@ mod encoders;
 mod exports;
 pub mod laws;
 mod restore;
+mod standard;
 mod stripes;

@@ -1,4 +1,17 @@
-ghost use Rattle.std.specs.Prelude.{◌≡◌, ◌⊎◌, ◌↔◌, ℕ, ◌*◌, ◌<◌, ◌≤◌, IfNone, IfSome, length, replicate};
+ghost use Rattle.std.specs.Prelude.{
+  ◌≡◌,
+  ◌⊎◌,
+  ◌↔◌,
+  ℕ,
+  ◌*◌,
+  ◌<◌,
+  ◌≤◌,
+  IfNone,
+  IfSome,
+  IsTrue,
+  length,
+  replicate,
+};
 ghost use Rattle.stair_model.specs.CellSet.{HasCell, IsCellSet};
 ghost use Rattle.stair_model.specs.Geometry.{geometry_of};
 ghost use Rattle.stair_model.specs.Stripe.{IsStripeOf, IsWellFormed, cell};
@@ -117,9 +130,25 @@ fn restore_stripe(
 {
     let cells = erased_cells(geometry, count, erased, number);
     load(geometry, count, sectors, number, stripe);
+    if is_whole(geometry, &cells) {
+        return;
+    }
     // The cells are covered, so it succeeds.
     let _ = decode_upstairs(canon, stripe, &cells);
     store_cells(geometry, count, sectors, number, &cells, stripe);
+}
+
+/// Returns whether no cell of the stripe is erased.
+fn is_whole(geometry: &Geometry, erased: &CellSet) -> bool
+    ensures { IsTrue result → (i j : ℕ) → i < geometry.now.r → j < geometry.now.n →
+        ¬ HasCell erased.now i j }
+{
+    for slot in 0..geometry.n() {
+        if held_rows(geometry, erased, slot) < geometry.r() {
+            return false;
+        }
+    }
+    true
 }
 
 /// Stores the cells of this stripe of `count` from the first erased one of each chunk on. The others have the bytes of their

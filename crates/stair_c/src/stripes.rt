@@ -138,7 +138,7 @@ pub(crate) fn store_chunk(
 }
 
 /// How many cells of the chunk in this slot precede its parities. The global parities of a class are the chunk's last cells.
-fn data_rows(geometry: &Geometry, slot: u8) -> u8
+pub(crate) fn data_rows(geometry: &Geometry, slot: u8) -> u8
     requires { slot < geometry.now.n }
     ensures within { result ≤ geometry.now.r }
     ensures data { (i : ℕ) → i < result → (d : ℕ) × (cell_at geometry.now i slot ≡ Data d) }
