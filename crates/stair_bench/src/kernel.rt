@@ -77,6 +77,10 @@ pub(crate) enum StripeWork {
     Restore,
     /// Restores the same cells, in other chunks in each round.
     RestoreInTurn,
+    /// The parities of one of 64 stripes after another.
+    EncodeMany(By),
+    /// The cells of the worst pattern, of one of 64 stripes after another.
+    RestoreMany,
     /// Sets the middle block of the encoded stripe to other bytes.
     Update,
     /// Copies the data cells that the parities are encoded from.
@@ -89,6 +93,8 @@ impl StripeWork {
             StripeWork::Encode(by) => name_of(by),
             StripeWork::Restore => "restore",
             StripeWork::RestoreInTurn => "restore-in-turn",
+            StripeWork::EncodeMany(by) => many_of(by),
+            StripeWork::RestoreMany => "many-restore",
             StripeWork::Update => "update",
             StripeWork::CopyCells => "copy-cells",
         }
@@ -146,7 +152,7 @@ pub(crate) enum Kernel {
 }
 
 /// The kernels that need no file.
-pub(crate) static IN_MEMORY: [Kernel; 32] = [
+pub(crate) static IN_MEMORY: [Kernel; 44] = [
     Kernel::MultiplyAdd,
     Kernel::Solve(Row::EightTwo),
     Kernel::CopySymbols(Row::EightTwo),
@@ -177,6 +183,30 @@ pub(crate) static IN_MEMORY: [Kernel; 32] = [
     Kernel::Stripe(StripeWork::Restore, Layout::ThirtyTwoDevices),
     Kernel::Stripe(StripeWork::RestoreInTurn, Layout::ThirtyTwoDevices),
     Kernel::Stripe(StripeWork::CopyCells, Layout::ThirtyTwoDevices),
+    Kernel::Stripe(StripeWork::EncodeMany(By::Downstairs), Layout::EightDevices),
+    Kernel::Stripe(StripeWork::EncodeMany(By::Upstairs), Layout::EightDevices),
+    Kernel::Stripe(StripeWork::EncodeMany(By::Standard), Layout::EightDevices),
+    Kernel::Stripe(StripeWork::RestoreMany, Layout::EightDevices),
+    Kernel::Stripe(
+        StripeWork::EncodeMany(By::Downstairs),
+        Layout::SixteenDevices,
+    ),
+    Kernel::Stripe(StripeWork::EncodeMany(By::Upstairs), Layout::SixteenDevices),
+    Kernel::Stripe(StripeWork::EncodeMany(By::Standard), Layout::SixteenDevices),
+    Kernel::Stripe(StripeWork::RestoreMany, Layout::SixteenDevices),
+    Kernel::Stripe(
+        StripeWork::EncodeMany(By::Downstairs),
+        Layout::ThirtyTwoDevices,
+    ),
+    Kernel::Stripe(
+        StripeWork::EncodeMany(By::Upstairs),
+        Layout::ThirtyTwoDevices,
+    ),
+    Kernel::Stripe(
+        StripeWork::EncodeMany(By::Standard),
+        Layout::ThirtyTwoDevices,
+    ),
+    Kernel::Stripe(StripeWork::RestoreMany, Layout::ThirtyTwoDevices),
     Kernel::SealSectors,
     Kernel::SealSectorsByEight,
 ];
@@ -231,6 +261,16 @@ fn name_of(by: By) -> &'static str {
         By::Upstairs => "upstairs",
         By::Downstairs => "downstairs",
         By::Fewest => "fewest",
+    }
+}
+
+/// How the encoder is called where it encodes many stripes.
+fn many_of(by: By) -> &'static str {
+    match by {
+        By::Standard => "many-standard",
+        By::Upstairs => "many-upstairs",
+        By::Downstairs => "many-downstairs",
+        By::Fewest => "many-fewest",
     }
 }
 

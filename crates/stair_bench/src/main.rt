@@ -8,6 +8,7 @@ mod encoding;
 mod fault;
 mod kernel;
 mod layout;
+mod many;
 mod redo;
 mod restoring;
 mod rounds;

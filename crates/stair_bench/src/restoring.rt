@@ -103,7 +103,7 @@ fn worst_patterns(alloc: Global, geometry: &Geometry, count: u8) -> Result<Vec<C
 
 /// Returns the covered pattern that takes the most steps: m whole chunks from this one on, and in the chunks after them as many
 /// last sectors as the coverage vector says.
-fn worst_pattern(geometry: &Geometry, first: u8) -> CellSet
+pub(crate) fn worst_pattern(geometry: &Geometry, first: u8) -> CellSet
     requires { first < geometry.now.n }
     ensures { IsInStripe geometry.now result }
 {
@@ -135,7 +135,7 @@ fn add_sectors(geometry: &Geometry, pattern: &mut CellSet, slot: u8, from: u8)
 }
 
 /// Overwrites the cells of the pattern.
-fn erase(geometry: &Geometry, pattern: &CellSet, stripe: &mut Stripe)
+pub(crate) fn erase(geometry: &Geometry, pattern: &CellSet, stripe: &mut Stripe)
     requires { IsStripeOf geometry.now stripe.old }
     ensures { IsStripeOf geometry.now stripe.new }
 {

@@ -10,6 +10,7 @@ use crate::encoding::{check_of_copying_cells, check_of_encoding, check_of_updati
 use crate::fault::Fault;
 use crate::kernel::{Code, FileWork, Kernel, StripeWork};
 use crate::layout::Layout;
+use crate::many::{check_of_encoding_many, check_of_restoring_many};
 use crate::redo::check_of_redoing;
 use crate::restoring::check_of_restoring;
 use crate::sectors::{
@@ -77,6 +78,12 @@ fn check_of_stripe_work(
         StripeWork::Restore => check_of_restoring::<Brand>(alloc, &geometry, 1, rounds, steps),
         StripeWork::RestoreInTurn => {
             check_of_restoring::<Brand>(alloc, &geometry, geometry.n(), rounds, steps)
+        }
+        StripeWork::EncodeMany(by) => {
+            check_of_encoding_many::<Brand>(alloc, by, &geometry, rounds, steps)
+        }
+        StripeWork::RestoreMany => {
+            check_of_restoring_many::<Brand>(alloc, &geometry, rounds, steps)
         }
         StripeWork::Update => check_of_updating::<Brand>(alloc, &geometry, rounds, steps),
         StripeWork::CopyCells => check_of_copying_cells(alloc, &geometry, rounds),

@@ -8,3 +8,9 @@ ghosts-check_of_updating a = record { name = a.blank.name; parts = a.blank.parts
 
 abbrev pub ghosts-check_of_restoring : goal.ghosts-check_of_restoring
 ghosts-check_of_restoring a = record { name = a.blank.name; parts = a.blank.parts }
+
+abbrev pub ghosts-check_of_encoding_many : goal.ghosts-check_of_encoding_many
+ghosts-check_of_encoding_many a = record { name = a.blank.name; parts = a.blank.parts }
+
+abbrev pub ghosts-check_of_restoring_many : goal.ghosts-check_of_restoring_many
+ghosts-check_of_restoring_many a = record { name = a.blank.name; parts = a.blank.parts }
